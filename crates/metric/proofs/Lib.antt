@@ -1,0 +1,4 @@
+pub mod Table
+pub mod Decoded
+pub mod ReadBack
+pub mod Starred

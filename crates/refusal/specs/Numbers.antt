@@ -1,0 +1,34 @@
+-- Document 01, "Refusal numbers": the number of each refusal.
+use Prim.Native.Nat.{ℕ}
+use Rattle.refusal.specs.declared.Refusal.{Refusal}
+use Rattle.refusal.specs.declared.Refusal.the-variants.{BadMark, NoFreePlace, TooOld, BadStore, NotHeld, BadLimit, TooManyRequests, StreamRepeated, BadRange, OutputTooShort, BadFileMark, BadFileVersion, RecordCutShort, BadRecord, PacketTooShort, BadVersion, BadType, BadLength, Padded, RunsIntoRts, TooManyReports, FillerNotZero, NoBlock, NoNumber}
+
+abbrev pub numberOf : Refusal → ℕ
+-- arrivals and the store
+numberOf BadMark = 1
+numberOf NoFreePlace = 2
+numberOf TooOld = 3
+numberOf BadStore = 4
+numberOf NotHeld = 5
+-- the writer; 10 is the rewriter's too
+numberOf BadLimit = 6
+numberOf TooManyRequests = 7
+numberOf StreamRepeated = 8
+numberOf BadRange = 9
+numberOf OutputTooShort = 10
+-- the arrival file
+numberOf BadFileMark = 11
+numberOf BadFileVersion = 12
+numberOf RecordCutShort = 13
+numberOf BadRecord = 14
+-- the reader
+numberOf PacketTooShort = 21
+numberOf BadVersion = 22
+numberOf BadType = 23
+numberOf BadLength = 24
+numberOf Padded = 25
+numberOf RunsIntoRts = 26
+numberOf TooManyReports = 27
+numberOf FillerNotZero = 28
+numberOf NoBlock = 29
+numberOf NoNumber = 30

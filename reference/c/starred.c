@@ -1,0 +1,74 @@
+/* The starred cases of the metric through the C header. */
+
+#include "ccfb.h"
+
+#include <stdbool.h>
+#include <stdint.h>
+#include <stdio.h>
+
+static int cases = 0;
+static int failed = 0;
+
+static void check(bool holds, const char *what, unsigned long value)
+{
+    cases++;
+    if (!holds) {
+        failed++;
+        printf("FAILED starred: %s %lu\n", what, value);
+    }
+}
+
+struct encode_case {
+    uint32_t age;
+    uint16_t offset;
+};
+
+struct decode_case {
+    uint16_t metric;
+    uint8_t kind;
+    uint8_t mark;
+    uint16_t offset;
+};
+
+static const struct encode_case encodes[] = {
+    {0, 0},
+    {63, 0},
+    {64, 1},
+    {524096, 0x1FFD},
+    {524097, 0x1FFE},
+    {0x7FFFFFFF, 0x1FFE},
+    {0x80000000, 0x1FFF},
+};
+
+/* Kinds: 0 not received, 1 received with an offset, 2 over range, 3 no time. A mark or an offset
+   that the kind does not have stays as it was before the call. */
+enum { MARK_BEFORE = 77, OFFSET_BEFORE = 7777 };
+
+static const struct decode_case decodes[] = {
+    {0x7FFF, 0, MARK_BEFORE, OFFSET_BEFORE},
+    {0xBFFD, 1, 1, 8189},
+    {0xFFFE, 2, 3, OFFSET_BEFORE},
+    {0xFFFF, 3, 3, OFFSET_BEFORE},
+};
+
+int main(void)
+{
+    const uint32_t rts = 0x00050000;
+    for (size_t i = 0; i < sizeof encodes / sizeof encodes[0]; i++) {
+        uint16_t metric = 0;
+        uint8_t refusal = ccfb_encode_metric(0, true, rts - encodes[i].age, rts, &metric);
+        check(refusal == 0 && metric == (0x8000 | encodes[i].offset), "age", encodes[i].age);
+    }
+    for (size_t i = 0; i < sizeof decodes / sizeof decodes[0]; i++) {
+        uint8_t mark = MARK_BEFORE;
+        uint16_t offset = OFFSET_BEFORE;
+        uint8_t kind = ccfb_decode_metric(decodes[i].metric, &mark, &offset);
+        check(kind == decodes[i].kind && mark == decodes[i].mark && offset == decodes[i].offset,
+              "metric", decodes[i].metric);
+    }
+    if (failed != 0) {
+        return 1;
+    }
+    printf("ok starred: %d cases\n", cases);
+    return 0;
+}

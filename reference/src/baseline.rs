@@ -1,0 +1,4 @@
+//! Plain fast Rust on the product's layout and behind the same C boundary. It serves as the
+//! measure of speed; `compare --baseline` shows that it does the same.
+
+pub mod metric;

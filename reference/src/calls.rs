@@ -1,0 +1,16 @@
+//! The C functions of each subject as a table of pointers, so that the product and the baseline
+//! are called in one way, and safe wrappers for the comparison.
+
+pub mod metric;
+
+/// What a wrapper answers for a call that refused and yet wrote an out-parameter.
+pub const TOUCHED: u8 = 255;
+
+/// `Ok(value)` for 0, else the refusal number; `before` is what the out-parameters held.
+fn answer<T: PartialEq>(code: u8, value: T, before: T) -> Result<T, u8> {
+    match code {
+        0 => Ok(value),
+        _ if value != before => Err(TOUCHED),
+        _ => Err(code),
+    }
+}

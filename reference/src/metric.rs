@@ -1,0 +1,157 @@
+//! The 16-bit metric: ages as exact fractions of a second, fields as a string of bits.
+
+use crate::refusal::Refusal;
+use std::cmp::Ordering;
+
+/// What a filled cell holds: the mark, and the time unless it is unknown.
+#[derive(Clone, Copy, Debug, PartialEq, Eq)]
+pub struct Received {
+    pub mark: u8,
+    pub time: Option<u32>,
+}
+
+/// The four cases of a metric that is read back.
+#[derive(Clone, Copy, Debug, PartialEq, Eq)]
+pub enum Reading {
+    NotReceived,
+    Offset { mark: u8, offset: u16 },
+    OverRange { mark: u8 },
+    NoTime { mark: u8 },
+}
+
+/// `over / under` seconds.
+#[derive(Clone, Copy)]
+struct Seconds {
+    over: i128,
+    under: i128,
+}
+
+/// Times come round after 65,536 s; an age of half of that or more counts as after RTS.
+const ROUND: Seconds = Seconds { over: 65_536, under: 1 };
+const HALF_ROUND: Seconds = Seconds { over: 32_768, under: 1 };
+/// The longest age that has an offset.
+const RANGE: Seconds = Seconds { over: 8_189, under: 1_024 };
+
+impl Seconds {
+    fn of(time: u32) -> Seconds {
+        Seconds { over: i128::from(time), under: 65_536 }
+    }
+
+    /// From `earlier` on the round clock up to `self`.
+    fn since(self, earlier: Seconds) -> Seconds {
+        let over = self.over * earlier.under - earlier.over * self.under;
+        let under = self.under * earlier.under;
+        let round = if over < 0 { ROUND.over * under / ROUND.under } else { 0 };
+        Seconds { over: over + round, under }
+    }
+
+    fn compare(self, other: Seconds) -> Ordering {
+        (self.over * other.under).cmp(&(other.over * self.under))
+    }
+
+    /// Whole 1/1024 s in it.
+    fn offset(self) -> i128 {
+        (self.over * 1_024).div_euclid(self.under)
+    }
+}
+
+/// The 13 bits of the arrival time offset.
+fn offset_bits(time: Option<u32>, rts: u32) -> String {
+    let no_time = "1111111111111".to_string();
+    let Some(time) = time else {
+        return no_time;
+    };
+    let age = Seconds::of(rts).since(Seconds::of(time));
+    if age.compare(HALF_ROUND) != Ordering::Less {
+        no_time
+    } else if age.compare(RANGE) == Ordering::Greater {
+        "1111111111110".to_string()
+    } else {
+        format!("{:013b}", age.offset())
+    }
+}
+
+/// The metric of a cell, empty or filled, at `rts`.
+pub fn encode(cell: Option<Received>, rts: u32) -> Result<u16, Refusal> {
+    let Some(Received { mark, time }) = cell else {
+        return Ok(0);
+    };
+    let mark = match mark {
+        0 => "00",
+        1 => "01",
+        2 => "10",
+        3 => "11",
+        _ => return Err(Refusal::MarkAbove3),
+    };
+    let bits = format!("1{mark}{}", offset_bits(time, rts));
+    Ok(u16::from_str_radix(&bits, 2).expect("sixteen bits"))
+}
+
+/// What a metric says.
+pub fn decode(metric: u16) -> Reading {
+    let bits = format!("{metric:016b}");
+    if bits.starts_with('0') {
+        return Reading::NotReceived;
+    }
+    let mark = match &bits[1..3] {
+        "00" => 0,
+        "01" => 1,
+        "10" => 2,
+        _ => 3,
+    };
+    match &bits[3..] {
+        "1111111111111" => Reading::NoTime { mark },
+        "1111111111110" => Reading::OverRange { mark },
+        offset => {
+            let offset = u16::from_str_radix(offset, 2).expect("thirteen bits");
+            Reading::Offset { mark, offset }
+        }
+    }
+}
+
+#[cfg(test)]
+mod tests {
+    use super::*;
+
+    fn offset_of_age(age: u32) -> u16 {
+        let rts = 0x0005_0000;
+        let time = Some(u32::wrapping_sub(rts, age));
+        encode(Some(Received { mark: 0, time }), rts).unwrap() - 0x8000
+    }
+
+    #[test]
+    fn ages_at_the_edges() {
+        for (age, offset) in [
+            (0, 0),
+            (63, 0),
+            (64, 1),
+            (524_096, 0x1FFD),
+            (524_097, 0x1FFE),
+            (0x7FFF_FFFF, 0x1FFE),
+            (0x8000_0000, 0x1FFF),
+            (0xFFFF_FFFF, 0x1FFF),
+        ] {
+            assert_eq!(offset_of_age(age), offset, "age {age}");
+        }
+    }
+
+    #[test]
+    fn marks_and_empty_cells() {
+        let rts = 7;
+        let unknown = |mark| encode(Some(Received { mark, time: None }), rts);
+        assert_eq!(encode(None, rts), Ok(0x0000));
+        assert_eq!(unknown(0), Ok(0x9FFF));
+        assert_eq!(unknown(1), Ok(0xBFFF));
+        assert_eq!(unknown(2), Ok(0xDFFF));
+        assert_eq!(unknown(3), Ok(0xFFFF));
+        assert_eq!(unknown(4), Err(Refusal::MarkAbove3));
+    }
+
+    #[test]
+    fn reading_back_at_the_edges() {
+        assert_eq!(decode(0x7FFF), Reading::NotReceived);
+        assert_eq!(decode(0xBFFD), Reading::Offset { mark: 1, offset: 8189 });
+        assert_eq!(decode(0xFFFE), Reading::OverRange { mark: 3 });
+        assert_eq!(decode(0xFFFF), Reading::NoTime { mark: 3 });
+    }
+}
