@@ -34,13 +34,9 @@ pub fn age(rts: u32, time: u32) -> u32
 pub fn ato_of_age(age: u32) -> u16
     ensures { λ r. ⌜ (r ≡ atoOfAge age) × (r < 8192) ⌝ }
 {
-    if 2147483648 <= age {
-        return 0x1FFF;
-    }
-    if 524096 < age {
-        return 0x1FFE;
-    }
-    (age / 64) as u16
+    let rounded = (age / 64 % 65536) as u16;
+    let offset = if 524096 < age { 0x1FFE } else { rounded };
+    if 2147483648 <= age { 0x1FFF } else { offset }
 }
 
 // The arrival time offset of a time, seen from RTS.

@@ -1,22 +1,24 @@
 -- `metric::ato_of_age` meets its contract. Assumes nothing.
-use mathlib.Core.Path.{sym}
+use mathlib.Core.Path.{_≡_, sym, _∙_}
+use mathlib.Core.Logic.{⊎-elim}
 use native.Mathlib.Omega.{arith}
-use Rattle.metric.proofs.Table.{after-row, over-row, else-row}
 use borrow.Author.Needs.{needs}
+use Rattle.metric.proofs.Table.{after-row, over-row, else-row}
 use Rattle.metric.proofs.ato_of_age.Statement.{statement}
 use Rattle.metric.proofs.ato_of_age.Tie as tie
 
+cast-rounded : tie.Need-cast-rounded
+cast-rounded c = search needs
+
 returns : tie.Need-returns
-returns c = (sym (after-row _ (c .if1 .taken)), omega arith)
+returns c = (sym (after-row _ (c .if2 .taken)), omega arith)
 
 returns-2 : tie.Need-returns-2
-returns-2 c = (sym (over-row _ (c .if2 .taken) (c .before .if1 .left)), omega arith)
-
-cast-result : tie.Need-cast-result
-cast-result c = search needs
-
-returns-3 : tie.Need-returns-3
-returns-3 c = (sym (else-row _ (c .if2 .left)), omega arith)
+returns-2 c =
+    ⊎-elim
+    (λ w. (w .1 ∙ sym (over-row _ (w .0 .taken) (c .if2 .left)), omega arith))
+    (λ w. (omega (arith, else-row _ (w .0 .left)), omega arith))
+    (c .before .if1 .came)
 
 pub ato-of-age-spec : {M : Type 1} → statement M
-ato-of-age-spec = tie.close (tie.spec returns returns-2 cast-result returns-3)
+ato-of-age-spec = tie.close (tie.spec cast-rounded returns returns-2)

@@ -1,0 +1,183 @@
+-- The theorems by history, over every list of arrivals and forgets from a fresh store. Assumes nothing.
+use Prim.Native.Nat.{ℕ, _+_, _-_, _%_, _<_, _≤_, max}
+use mathlib.Core.Path.{_≡_, refl, sym, ap, subst, _∙_}
+use mathlib.Core.Bool.{Bool, true, false, cond, _&&_, false≢true}
+use mathlib.Core.List.{List, [], _∷_, _++_, map, List·Memᴰ, List·Memᴰ·head, List·Memᴰ·tail}
+use mathlib.Core.Logic.{_⊎_, inl, inr, ⊎-elim}
+use native.Mathlib.Omega.{arith}
+use native.Mathlib.Decide.{decLe}
+use borrow.Author.Tests.{lt-ltb, eq-eqb}
+use lib.Dec.{eqb}
+use lib.ListN.{length}
+use Rattle.refusal.specs.Lists.{All}
+use Rattle.metric.specs.declared.Time.{Time}
+use Rattle.window.specs.declared.Found.{Found}
+use Rattle.window.specs.declared.Found.the-variants.{At, Nothing}
+use Rattle.window.proofs.First.{first-true}
+use Rattle.store.specs.Place.{placeAt, isStream, findOf}
+use Rattle.store.specs.Cell.{readCell, cellAt, metricAt}
+use Rattle.store.specs.Store.{placeOf}
+use Rattle.store.specs.declared.Holding.the-variants.{Held}
+use Rattle.history.specs.Calls.{Call, arrive, forget, Answer, Store, storeRun, storeAnswers, Accepted, acceptedOf, isDone, heard, heardAll, CallInRange}
+use Rattle.history.specs.Meaning.{Entry, fullOf, firstFull, entryOf, countFrom, topFrom, entriesOf, topOf, AsArrivals, EntryInRange, AcceptedInRange}
+use Rattle.history.specs.Model.{Place, free, names, at, modelPlace, modelStep, modelAnswer, modelRun, modelAnswers, vacant}
+use Rattle.history.specs.Reading.{Holds, Reads, Fresh}
+use Rattle.history.proofs.Numbers.{full-low}
+use Rattle.history.proofs.Copies.{all-append}
+use Rattle.history.proofs.Places.{named, find-same}
+use Rattle.history.proofs.Filled.{as-arrivals}
+use Rattle.history.proofs.Simulation.{place-alike, simulates, fresh-reads}
+use Rattle.history.proofs.Once.{foundIn}
+use Rattle.history.proofs.Heard.{placeBy, Kept, run-kept, vacant-kept}
+
+zero-is-one : _≡_ {A = ℕ} 0 1 → ⊥
+zero-is-one q = omega arith
+
+-- ---- accepted arrivals and their full numbers
+-- an accepted arrival has a mark of 0 to 3
+done-mark : (ps : List Place) (x number mark : ℕ) (time : Time) → isDone (modelAnswer ps (arrive x number mark time)) ≡ true → mark ≤ 3
+done-mark ps x number mark time d =
+    elim (decLe mark 3) [ yes m ↦ m | no m ↦ absurd (false≢true (rw (lt-ltb 3 mark (omega arith)) at d)) ]
+
+heard-range : (y : ℕ) (l : List Accepted) (ps : List Place) (c : Call) → CallInRange c → All AcceptedInRange l → All AcceptedInRange (heard y l c (isDone (modelAnswer ps c)))
+heard-range y l ps (arrive x number mark time) r h =
+    picked (eqb x y) (isDone (modelAnswer ps (arrive x number mark time))) (λ d. (r .1 .0, (done-mark ps x number mark time d, r .1 .1)))
+  where
+    picked : (b d : Bool) → (d ≡ true → AcceptedInRange (record { number = number; mark = mark; time = time }))
+        → All AcceptedInRange (cond (b && d) (l ++ (record { number = number; mark = mark; time = time } ∷ [])) l)
+    picked true true g = all-append AcceptedInRange l (record { number = number; mark = mark; time = time }) h (g refl)
+    picked true false g = h
+    picked false d g = h
+heard-range y l ps (forget x) r h = picked (eqb x y && isDone (modelAnswer ps (forget x)))
+  where
+    picked : (b : Bool) → All AcceptedInRange (cond b [] l)
+    picked true = tt
+    picked false = h
+
+run-range : (y : ℕ) (cs : List Call) (ps : List Place) (l : List Accepted) → All CallInRange cs → All AcceptedInRange l → All AcceptedInRange (heardAll y l cs (modelAnswers ps cs))
+run-range y [] ps l r h = h
+run-range y (c ∷ cs) ps l r h = run-range y cs (modelStep ps c) (heard y l c (isDone (modelAnswer ps c))) (r .1) (heard-range y l ps c (r .0) h)
+
+-- the low 16 bits of the full numbers are the sequence numbers of the arrivals
+count-numbers : (l : List Accepted) (top : ℕ) → 65536 ≤ top → All AcceptedInRange l → map (λ (e : Entry). e .full % 65536) (countFrom top l) ≡ map (λ (a : Accepted). a .number) l
+unfolding countFrom
+count-numbers [] top g h = refl
+count-numbers (a ∷ l) top g h = rw (full-low top (a .number) g (h .0 .0), count-numbers l (max top (fullOf top (a .number))) (omega arith) (h .1))
+
+pub numbers-kept : (l : List Accepted) → All AcceptedInRange l → map (λ (e : Entry). e .full % 65536) (entriesOf l) ≡ map (λ (a : Accepted). a .number) l
+numbers-kept [] h = refl
+numbers-kept (a ∷ l) h =
+    let e : (65536 + a .number) % 65536 ≡ a .number = omega (arith, h .0 .0) in
+    rw (e, count-numbers l (65536 + a .number) (omega arith) (h .1))
+
+-- the highest full number is that of an arrival
+abbrev Attained : ℕ → ℕ → List Entry → Type 0
+Attained top t es = (t ≡ top) ⊎ ((e : Entry) × (List·Memᴰ e es × (e .full ≡ t)))
+
+count-attained : (l : List Accepted) (top : ℕ) → Attained top (topFrom top l) (countFrom top l)
+unfolding countFrom topFrom
+count-attained [] top = inl refl
+count-attained (a ∷ l) top = ⊎-elim (λ h. here h) (λ h. inr (h .0, (List·Memᴰ·tail (h .1 .0), h .1 .1))) (count-attained l (max top (fullOf top (a .number))))
+  where
+    here : topFrom (max top (fullOf top (a .number))) l ≡ max top (fullOf top (a .number))
+        → Attained top (topFrom (max top (fullOf top (a .number))) l) (entryOf (fullOf top (a .number)) a ∷ countFrom (max top (fullOf top (a .number))) l)
+    here h =
+        elim (decLe (fullOf top (a .number)) top) [
+          | yes q ↦ inl (omega arith)
+          | no q ↦ inr (entryOf (fullOf top (a .number)) a, (List·Memᴰ·head refl, omega arith))
+        ]
+
+pub highest-attained : (a : Accepted) (l : List Accepted) → (e : Entry) × (List·Memᴰ e (entriesOf (a ∷ l)) × (e .full ≡ topOf (a ∷ l)))
+highest-attained a l =
+    ⊎-elim (λ h. (entryOf (firstFull (a .number)) a, (List·Memᴰ·head refl, sym h))) (λ h. (h .0, (List·Memᴰ·tail (h .1 .0), h .1 .1))) (count-attained l (firstFull (a .number)))
+
+-- ---- every list of calls to a fresh store
+module _ (st : Store) (new : Fresh st) (cs : List Call) (range : All CallInRange cs) where
+  abbrev model : List Place
+  model = modelRun (vacant (length (st .places))) cs
+
+  abbrev history : ℕ → List Accepted
+  history ssrc = acceptedOf ssrc cs (storeAnswers st cs)
+
+  -- the store answers each call as the machine does
+  pub same-answers : storeAnswers st cs ≡ modelAnswers (vacant (length (st .places))) cs
+  same-answers = simulates cs range st (vacant (length (st .places))) (fresh-reads st new) .0
+
+  -- and reads as the machine says, place by place and cell by cell
+  pub same-reading : Reads (storeRun st cs) model
+  same-reading = simulates cs range st (vacant (length (st .places))) (fresh-reads st new) .1
+
+  pub same-place : (k : ℕ) → placeOf (storeRun st cs .places) (storeRun st cs .cells) k ≡ modelPlace (at model k)
+  same-place k = place-alike (storeRun st cs) model same-reading k
+
+  kept : Kept model history
+  kept = subst (λ (xs : List Answer). Kept model (λ (y : ℕ). acceptedOf y cs xs)) (sym same-answers) (run-kept cs (vacant (length (st .places))) (λ (y : ℕ). []) (vacant-kept (length (st .places))))
+
+  -- no SSRC in two places
+  pub no-ssrc-twice : (ssrc p q h g : ℕ) → placeAt (storeRun st cs .places) p ≡ Held ssrc h → placeAt (storeRun st cs .places) q ≡ Held ssrc g → p ≡ q
+  no-ssrc-twice ssrc p q h g a b = kept .once ssrc p q (test p h a) (test q g b)
+    where
+      test : (k h : ℕ) → placeAt (storeRun st cs .places) k ≡ Held ssrc h → names ssrc (at model k) ≡ true
+      test k h e =
+          sym (named (storeRun st cs .cells) k (placeAt (storeRun st cs .places) k) ssrc (at model k) (same-reading .each k))
+          ∙ ap (isStream ssrc) e
+          ∙ eq-eqb ssrc ssrc refl
+
+  module _ (ssrc : ℕ) where
+    found-by : (f : Found) → findOf (storeRun st cs .places) ssrc ≡ f → foundIn f model ≡ placeBy ssrc (history ssrc)
+    found-by f e = ap (λ (g : Found). foundIn g model) (sym (sym (find-same (storeRun st cs) model same-reading ssrc) ∙ e)) ∙ kept .each ssrc
+
+    -- a stream that the store does not hold has no accepted arrival since it was forgotten
+    pub not-held : findOf (storeRun st cs .places) ssrc ≡ Nothing → history ssrc ≡ []
+    not-held e = none (history ssrc) (found-by Nothing e)
+      where
+        none : (l : List Accepted) → free ≡ placeBy ssrc l → l ≡ []
+        none [] h = refl
+        none (a ∷ l) h = absurd (zero-is-one (let z : _≡_ {A = ℕ} 0 1 = cc in z))
+
+    pub accepted-in-range : All AcceptedInRange (history ssrc)
+    accepted-in-range = rw same-answers (run-range ssrc cs (vacant (length (st .places))) [] range tt)
+
+    module _ (p : ℕ) (found : findOf (storeRun st cs .places) ssrc ≡ At p) where
+      -- a stream that it holds: H, and each cell of its window, are as its accepted arrivals say
+      pub by-history : Holds (storeRun st cs .cells) p (placeAt (storeRun st cs .places) p) ssrc (topOf (history ssrc)) (entriesOf (history ssrc))
+      by-history = holds (history ssrc) (found-by (At p) found)
+        where
+          holds : (l : List Accepted) → at model p ≡ placeBy ssrc l → Holds (storeRun st cs .cells) p (placeAt (storeRun st cs .places) p) ssrc (topOf l) (entriesOf l)
+          holds [] e =
+              let t = first-true (λ (k : ℕ). names ssrc (at model k)) (length model) 0 p (sym (find-same (storeRun st cs) model same-reading ssrc) ∙ found) in
+              absurd (false≢true (sym (ap (names ssrc) e) ∙ t))
+          holds (a ∷ l) e = rw e at (same-reading .each p)
+
+      pub cell-by-history : (n : ℕ) → n ≤ topOf (history ssrc) → topOf (history ssrc) < n + 2048
+          → AsArrivals (readCell (cellAt (storeRun st cs .cells) p n)) (entriesOf (history ssrc)) n
+      cell-by-history n a b = rw (by-history .window n a b) (as-arrivals (entriesOf (history ssrc)) n)
+
+      pub entries-in-range : All EntryInRange (entriesOf (history ssrc))
+      entries-in-range = by-history .inRange
+
+-- ---- a stream by itself
+-- each slot of the ring is that of one number of the window
+slot-number : (top s : ℕ) → 2048 ≤ top → (n : ℕ) × ((n ≤ top) × ((top < n + 2048) × (n % 2048 ≡ s % 2048)))
+slot-number top s g = (top - (top + 2048 - s % 2048) % 2048, (omega arith, (omega arith, omega arith)))
+
+module _ (st st′ : Store) (new : Fresh st) (new′ : Fresh st′) (cs cs′ : List Call) (range : All CallInRange cs) (range′ : All CallInRange cs′)
+    (ssrc p p′ : ℕ) (found : findOf (storeRun st cs .places) ssrc ≡ At p) (found′ : findOf (storeRun st′ cs′ .places) ssrc ≡ At p′)
+    (same : acceptedOf ssrc cs (storeAnswers st cs) ≡ acceptedOf ssrc cs′ (storeAnswers st′ cs′)) where
+  H : Holds (storeRun st cs .cells) p (placeAt (storeRun st cs .places) p) ssrc (topOf (acceptedOf ssrc cs (storeAnswers st cs))) (entriesOf (acceptedOf ssrc cs (storeAnswers st cs)))
+  H = by-history st new cs range ssrc p found
+
+  H′ : Holds (storeRun st′ cs′ .cells) p′ (placeAt (storeRun st′ cs′ .places) p′) ssrc (topOf (acceptedOf ssrc cs (storeAnswers st cs))) (entriesOf (acceptedOf ssrc cs (storeAnswers st cs)))
+  H′ = rw same (by-history st′ new′ cs′ range′ ssrc p′ found′)
+
+  -- the same SSRC and highest number, wherever the stream stands
+  pub same-highest : placeAt (storeRun st cs .places) p ≡ placeAt (storeRun st′ cs′ .places) p′
+  same-highest = H .place ∙ sym (H′ .place)
+
+  -- and the same metric of every number at the same RTS, whatever came in for other streams
+  pub same-metrics : (rts number : ℕ) → metricAt (storeRun st cs .cells) rts p number ≡ metricAt (storeRun st′ cs′ .cells) rts p′ number
+  unfolding metricAt
+  same-metrics rts number =
+      let g = H .begun in
+      let n = slot-number (topOf (acceptedOf ssrc cs (storeAnswers st cs))) number (omega arith) in
+      rw (← n .1 .1 .1, H .window (n .0) (n .1 .0) (n .1 .1 .0), H′ .window (n .0) (n .1 .0) (n .1 .1 .0))

@@ -1,0 +1,91 @@
+-- What one more accepted arrival makes of a cell's meaning. Assumes nothing.
+use Prim.Native.Nat.{ℕ, _+_, _<_, _≤_}
+use mathlib.Core.Path.{_≡_, refl, sym, ap, _∙_}
+use mathlib.Core.Bool.{Bool, true, false, cond, _||_}
+use mathlib.Core.List.{List, [], _∷_, _++_}
+use native.Mathlib.Omega.{arith}
+use native.Mathlib.Decide.{ℕ-discrete}
+use borrow.Author.Tests.{eq-eqb, ne-eqb}
+use lib.Dec.{eqb}
+use Rattle.refusal.specs.Lists.{All}
+use Rattle.metric.specs.declared.Time.{Time}
+use Rattle.metric.specs.declared.Cell.{Cell}
+use Rattle.metric.specs.declared.Cell.the-variants.{Empty, Filled}
+use Rattle.store.specs.Cell.{foldedMark}
+use Rattle.history.specs.Meaning.{Entry, copiesOf, anyCE, cellOf, cellBy}
+
+-- an arrival at an empty cell, and a copy
+abbrev pub afterCopy : Cell → ℕ → Time → Cell
+afterCopy Empty mark time = Filled mark time
+afterCopy (Filled held first) mark time = Filled (foldedMark held mark) first
+
+or-assoc : (a b c : Bool) → (a || (b || c)) ≡ ((a || b) || c)
+or-assoc true b c = refl
+or-assoc false b c = refl
+
+any-append : (cs : List Entry) (e : Entry) → anyCE (cs ++ (e ∷ [])) ≡ (anyCE cs || eqb (e .mark) 3)
+any-append [] e = last (eqb (e .mark) 3)
+  where
+    last : (b : Bool) → (b || false) ≡ b
+    last true = refl
+    last false = refl
+any-append (c ∷ cs) e = rw (any-append cs e, or-assoc)
+
+mark-fold : (b : Bool) (held copy : ℕ) → cond (b || eqb copy 3) 3 held ≡ foldedMark (cond b 3 held) copy
+unfolding foldedMark
+mark-fold true held copy = elim (ℕ-discrete copy 3) [ yes e ↦ simp (eq-eqb copy 3 e) | no e ↦ simp (ne-eqb copy 3 e) ]
+mark-fold false held copy = refl
+
+-- the first arrival's mark is its own
+mark-first : (mark : ℕ) → cond (eqb mark 3 || false) 3 mark ≡ mark
+mark-first mark = elim (ℕ-discrete mark 3) [ yes e ↦ simp (eq-eqb mark 3 e) (sym e) | no e ↦ simp (ne-eqb mark 3 e) ]
+
+pub cell-append : (cs : List Entry) (e : Entry) → cellOf (cs ++ (e ∷ [])) ≡ afterCopy (cellOf cs) (e .mark) (e .time)
+cell-append [] e = rw (mark-first (e .mark))
+cell-append (c ∷ cs) e = rw (any-append cs e, or-assoc, mark-fold (eqb (c .mark) 3 || anyCE cs) (c .mark) (e .mark))
+
+module _ (e : Entry) (n : ℕ) where
+  copies-same : e .full ≡ n → (es : List Entry) → copiesOf (es ++ (e ∷ [])) n ≡ copiesOf es n ++ (e ∷ [])
+  unfolding copiesOf
+  copies-same q [] = simp (eq-eqb (e .full) n q)
+  copies-same q (x ∷ es) = rw (copies-same q es) (each (eqb (x .full) n))
+    where
+      each : (b : Bool) → cond b (x ∷ (copiesOf es n ++ (e ∷ []))) (copiesOf es n ++ (e ∷ [])) ≡ cond b (x ∷ copiesOf es n) (copiesOf es n) ++ (e ∷ [])
+      each true = refl
+      each false = refl
+
+  copies-other : (e .full ≡ n → ⊥) → (es : List Entry) → copiesOf (es ++ (e ∷ [])) n ≡ copiesOf es n
+  unfolding copiesOf
+  copies-other q [] = simp (ne-eqb (e .full) n q)
+  copies-other q (x ∷ es) = rw (copies-other q es)
+
+  pub by-same : e .full ≡ n → (es : List Entry) → cellBy (es ++ (e ∷ [])) n ≡ afterCopy (cellBy es n) (e .mark) (e .time)
+  by-same q es = ap cellOf (copies-same q es) ∙ cell-append (copiesOf es n) e
+
+  pub by-other : (e .full ≡ n → ⊥) → (es : List Entry) → cellBy (es ++ (e ∷ [])) n ≡ cellBy es n
+  by-other q es = ap cellOf (copies-other q es)
+
+pub by-none : (n : ℕ) → cellBy [] n ≡ Empty
+unfolding copiesOf
+by-none n = refl
+
+-- above the highest full number there is no arrival
+pub copies-above : (top n : ℕ) (es : List Entry) → All (λ (e : Entry). e .full ≤ top) es → top < n → copiesOf es n ≡ []
+unfolding copiesOf
+copies-above top n [] h l = refl
+copies-above top n (e ∷ es) h l =
+    let q : e .full ≡ n → ⊥ = (λ g. omega (arith, h .0)) in
+    rw (ne-eqb (e .full) n q) (copies-above top n es (h .1) l)
+
+pub by-above : (top n : ℕ) (es : List Entry) → All (λ (e : Entry). e .full ≤ top) es → top < n → cellBy es n ≡ Empty
+by-above top n es h l = ap cellOf (copies-above top n es h l)
+
+-- a property of all, and of one more
+module _ {A : Type 0} (P : A → Type 0) where
+  pub all-append : (es : List A) (e : A) → All P es → P e → All P (es ++ (e ∷ []))
+  all-append [] e h p = (p, tt)
+  all-append (x ∷ es) e h p = (h .0, all-append es e (h .1) p)
+
+  pub all-map : (Q : A → Type 0) → ((x : A) → P x → Q x) → (es : List A) → All P es → All Q es
+  all-map Q f [] h = tt
+  all-map Q f (x ∷ es) h = (f x (h .0), all-map Q f es (h .1))

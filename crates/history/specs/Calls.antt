@@ -1,0 +1,89 @@
+-- A history: a list of calls that change a store, in the order in which they are made, and the answers to them.
+use Prim.Native.Nat.{ℕ, _<_, _^_}
+use mathlib.Core.Bool.{Bool, true, false, cond, _&&_}
+use mathlib.Core.List.{List, [], _∷_, _++_}
+use lib.Dec.{eqb}
+use Rattle.metric.specs.declared.Time.{Time}
+use Rattle.metric.specs.declared.Time.the-variants.{Unknown, Known}
+use Rattle.store.specs.Store.{arrived, forgotten}
+use Rattle.store.specs.declared.Arrival.{Arrival}
+use Rattle.store.specs.declared.Arrival.the-variants as arrival
+use Rattle.store.specs.declared.Forgetting.{Forgetting}
+use Rattle.store.specs.declared.Forgetting.the-variants as forgetting
+
+-- arrive: SSRC, sequence number, mark, time. forget: SSRC
+pub data Call : Type 0 where
+  arrive : ℕ → ℕ → ℕ → Time → Call
+  forget : ℕ → Call
+
+pub data Answer : Type 0 where
+  toArrival : Arrival → Answer
+  toForgetting : Forgetting → Answer
+
+-- any store that takes these calls: what each call leaves, and its answer
+module _ {S : Type 0} (step : S → Call → S) (answer : S → Call → Answer) where
+  abbrev pub run : S → List Call → S
+  run s [] = s
+  run s (c ∷ cs) = run (step s c) cs
+
+  abbrev pub answers : S → List Call → List Answer
+  answers s [] = []
+  answers s (c ∷ cs) = answer s c ∷ answers (step s c) cs
+
+-- the store in the two lent slices
+pub record Store : Type 0 where
+  pub places : List ℕ
+  pub cells : List ℕ
+
+abbrev pub storeStep : Store → Call → Store
+storeStep st (arrive ssrc number mark time) =
+    let o = arrived (st .places) (st .cells) ssrc number mark time in
+    record { places = o .places; cells = o .cells }
+storeStep st (forget ssrc) = record { places = forgotten (st .places) (st .cells) ssrc .places; cells = st .cells }
+
+abbrev pub storeAnswer : Store → Call → Answer
+storeAnswer st (arrive ssrc number mark time) = toArrival (arrived (st .places) (st .cells) ssrc number mark time .answer)
+storeAnswer st (forget ssrc) = toForgetting (forgotten (st .places) (st .cells) ssrc .answer)
+
+abbrev pub storeRun : Store → List Call → Store
+storeRun st cs = run storeStep storeAnswer st cs
+
+abbrev pub storeAnswers : Store → List Call → List Answer
+storeAnswers st cs = answers storeStep storeAnswer st cs
+
+-- an accepted arrival of a stream
+pub record Accepted : Type 0 where
+  pub number : ℕ
+  pub mark : ℕ
+  pub time : Time
+
+abbrev pub isDone : Answer → Bool
+isDone (toArrival arrival.Accepted) = true
+isDone (toArrival (arrival.Refused e)) = false
+isDone (toForgetting forgetting.Forgotten) = true
+isDone (toForgetting (forgetting.Refused e)) = false
+
+-- a stream's accepted arrivals after one more call, which was done or refused
+abbrev pub heard : ℕ → List Accepted → Call → Bool → List Accepted
+heard ssrc past (arrive x number mark time) done =
+    cond (eqb x ssrc && done) (past ++ (record { number = number; mark = mark; time = time } ∷ [])) past
+heard ssrc past (forget x) done = cond (eqb x ssrc && done) [] past
+
+-- those after all calls, by the answers to them
+abbrev pub heardAll : ℕ → List Accepted → List Call → List Answer → List Accepted
+heardAll ssrc past [] xs = past
+heardAll ssrc past (c ∷ cs) [] = past
+heardAll ssrc past (c ∷ cs) (x ∷ xs) = heardAll ssrc (heard ssrc past c (isDone x)) cs xs
+
+-- the accepted arrivals of a stream since it took its place, in the order of the calls: a list of calls to a fresh store, and their answers
+abbrev pub acceptedOf : ℕ → List Call → List Answer → List Accepted
+acceptedOf ssrc cs xs = heardAll ssrc [] cs xs
+
+-- what the types of a call's parameters say of them
+abbrev pub TimeInRange : Time → Type 0
+TimeInRange Unknown = Unit {0}
+TimeInRange (Known t) = t < 2 ^ 32
+
+abbrev pub CallInRange : Call → Type 0
+CallInRange (arrive ssrc number mark time) = (ssrc < 2 ^ 32) × ((number < 65536) × TimeInRange time)
+CallInRange (forget ssrc) = ssrc < 2 ^ 32

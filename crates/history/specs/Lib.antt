@@ -1,0 +1,5 @@
+pub mod Calls
+pub mod Meaning
+pub mod Model
+pub mod Reading
+pub mod Refusals

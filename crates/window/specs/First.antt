@@ -1,0 +1,10 @@
+-- The first place that passes a test.
+use Prim.Native.Nat.{ℕ, zero, suc, _+_}
+use mathlib.Core.Bool.{Bool, cond}
+use Rattle.window.specs.declared.Found.{Found}
+use Rattle.window.specs.declared.Found.the-variants.{At, Nothing}
+
+-- of the n places from i on
+unfoldable pub firstFrom : (ℕ → Bool) → ℕ → ℕ → Found
+firstFrom test i zero = Nothing
+firstFrom test i (suc n) = cond (test i) (At i) (firstFrom test (i + 1) n)
