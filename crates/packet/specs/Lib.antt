@@ -1,0 +1,4 @@
+pub mod Packet
+pub mod Walk
+pub mod Reading
+pub mod Tidy

@@ -1,0 +1,9 @@
+pub mod Here
+pub mod ReadBack
+pub mod Back
+pub mod WrittenBack
+pub mod Asked
+pub mod Refusals
+pub mod Rewriter
+pub mod InOctets
+pub mod Examples

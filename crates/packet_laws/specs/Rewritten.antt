@@ -1,0 +1,20 @@
+-- Document 01, "Reading and tidying": what holds of a packet that was tidied.
+use Prim.Native.Nat.{ℕ}
+use mathlib.Core.Path.{_≡_}
+use mathlib.Core.List.{List}
+use lib.ListN.{length, take, drop}
+use Rattle.packet.specs.Walk.{walkOf}
+use Rattle.packet.specs.Reading.{decode, readOf, located, reportedOf}
+
+-- reading the octets t gives the answers that reading s gives: sender, RTS and number of blocks, each block, each metric's number and case
+pub record SameAnswers (s t : List ℕ) : Type 0 where
+  pub read : readOf (decode t) ≡ readOf (decode s)
+  pub block : (k : ℕ) → located (walkOf t) k ≡ located (walkOf s) k
+  pub metric : (k j : ℕ) → reportedOf (located (walkOf t) k) t j ≡ reportedOf (located (walkOf s) k) s j
+
+-- n octets were written, as many as s has: the same is read in them, and the output's others stay
+pub record Rewritten (s entry exit : List ℕ) (n : ℕ) : Type 0 where
+  pub size : n ≡ length s
+  pub same : SameAnswers s (take n exit)
+  pub others : drop n exit ≡ drop n entry
+  pub long : length exit ≡ length entry

@@ -1,0 +1,1 @@
+// Theorems about reading and tidying CCFB packets, in proofs/; there is no code here.
