@@ -1,0 +1,10 @@
+pub mod Lists
+pub mod Plan
+pub mod Requests
+pub mod Split
+pub mod Ahead
+pub mod FromRules
+pub mod ToRules
+pub mod Division
+pub mod Theorems
+pub mod Examples

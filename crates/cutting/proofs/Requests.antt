@@ -1,0 +1,32 @@
+-- The first n of a list of requests, from one on. Assumes nothing.
+use mathlib.Core.Path.{_≡_, refl, sym, ap, _∙_}
+use mathlib.Core.List.{List, [], _∷_}
+use Prim.Native.Nat.{ℕ, zero, suc, _+_, _≤_, _<_}
+use native.Mathlib.Omega.{arith}
+use native.Mathlib.Numerals.{add-one}
+use lib.ListN.{length, take, drop, getD, drop-of-length-le}
+use lib.Seq.{drop-cons, getD-take, length-take-le}
+use Rattle.cutting.specs.declared.Request.{Request}
+use Rattle.cutting.specs.Cutting.{Block, wholeBlocks}
+
+abbrev pub noRequest : Request
+noRequest = record { ssrc = 0; begin = 0; count = 0 }
+
+module _ (rs : List Request) (n : ℕ) (fits : n ≤ length rs) where
+  -- the requests from i on: the one at i, and the others
+  pub rest-cons : (i : ℕ) → i < n → drop i (take n rs) ≡ getD rs i noRequest ∷ drop (i + 1) (take n rs)
+  rest-cons i h =
+      let l : i < length (take n rs) = omega (arith, length-take-le n rs fits) in
+      rw (add-one, drop-cons (take n rs) i noRequest l, getD-take n rs i noRequest h)
+
+  pub rest-none : (i : ℕ) → n ≤ i → drop i (take n rs) ≡ []
+  rest-none i h = drop-of-length-le (take n rs) {i = i} (omega (arith, length-take-le n rs fits))
+
+  abbrev pub blockAt : ℕ → Block
+  blockAt i = record { request = i; begin = getD rs i noRequest .begin; count = getD rs i noRequest .count }
+
+  pub blocks-cons : (i : ℕ) → i < n → wholeBlocks i (drop i (take n rs)) ≡ blockAt i ∷ wholeBlocks (i + 1) (drop (i + 1) (take n rs))
+  blocks-cons i h = rw (rest-cons i h, add-one)
+
+  pub blocks-none : (i : ℕ) → n ≤ i → wholeBlocks i (drop i (take n rs)) ≡ []
+  blocks-none i h = rw (rest-none i h)

@@ -1,0 +1,3 @@
+pub mod Cutting
+pub mod Plan
+pub mod Measure

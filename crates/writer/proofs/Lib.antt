@@ -1,0 +1,5 @@
+pub mod Metrics
+pub mod Checks
+pub mod Blocks
+pub mod Packets
+pub mod Calls

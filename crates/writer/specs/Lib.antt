@@ -1,0 +1,4 @@
+pub mod Packets
+pub mod Requests
+pub mod Position
+pub mod Written

@@ -1,0 +1,99 @@
+-- What is shown of the writer's answer and output, for every input that is not refused and any lent store content. Assumes nothing.
+use mathlib.Core.Path.{_≡_, refl, sym, ap, _∙_, subst}
+use mathlib.Core.List.{List, [], _∷_, _++_, map}
+use Prim.Native.Nat.{ℕ, _+_, _^_, _≤_, _<_}
+use native.Mathlib.Omega.{arith}
+use lib.ListN.{length, take, drop, length-map}
+use lib.Seq.{sets, sets-eq, take-at, drop-at}
+use Rattle.refusal.specs.Lists.{All}
+use Rattle.packet.specs.Packet as packet
+use Rattle.packet.specs.Reading.{Decoded, decode}
+use Rattle.cutting.specs.Cutting.{Packet, Cutting, Cuts, streamOf}
+use Rattle.cutting.specs.Plan.{plan, totalOctets}
+use Rattle.cutting.specs.declared.Request.{Request}
+use Rattle.cutting.proofs.Lists.{all-map, all-zip, all-over}
+use Rattle.cutting.proofs.Theorems.{plan-cuts, plan-fewest}
+use Rattle.writer.specs.declared.Answer.the-variants.{Written}
+use Rattle.writer.specs.Packets.{metricIn, reportPacket, encodePackets, packetsFor}
+use Rattle.writer.specs.Written.{Outcome, written}
+use Rattle.writer_laws.specs.Read.{packetsIn, cuttingRead, MetricsRead, InBits, Report}
+use Rattle.writer_laws.proofs.Requests.{sound-different, sound-counts}
+use Rattle.writer_laws.proofs.Refusals.{octets, length-octets, Accepted, accepted-written, accepted}
+use Rattle.writer_laws.proofs.Small.{Fits, metricOf, plan-small, report-fits}
+use Rattle.writer_laws.proofs.Output.{packets-in, all-accepted, cutting-read, metrics-read}
+
+-- ---- what is written stands in front, and the octets behind it stay
+
+front : (vs out : List ℕ) (o : ℕ) → length vs ≡ o → o ≤ length out → take o (sets out 0 vs) ≡ vs
+front vs out o e h = rw (sets-eq vs out 0 (omega arith)) (take-at vs (drop (0 + length vs) out) o e)
+
+behind : (vs out : List ℕ) (o : ℕ) → length vs ≡ o → o ≤ length out → drop o (sets out 0 vs) ≡ drop o out
+behind vs out o e h =
+    let z : 0 + length vs ≡ o = omega arith in
+    rw (sets-eq vs out 0 (omega arith), z) (drop-at vs (drop o out) o e)
+
+-- Every input: n requests `rs` of numbers that the parameters can hold, any store content, any output.
+module _ (places cells : List ℕ) (sender rts limit n : ℕ) (rs : List Request) (out : List ℕ) where
+  abbrev output : List ℕ
+  output = written places cells sender rts limit n rs out .output
+
+  module _ (bits : InBits sender rts rs) (p o : ℕ) (e : written places cells sender rts limit n rs out .answer ≡ Written p o) where
+    is : Accepted places cells sender rts limit n rs out × (p ≡ length (plan limit rs)) × (o ≡ totalOctets (plan limit rs))
+    is = accepted places cells sender rts limit n rs out p o e
+
+    abbrev packets : List packet.Packet
+    packets = packetsFor places cells sender rts limit rs
+
+    abbrev streams : All (λ r. r .ssrc < 2 ^ 32) rs
+    streams = all-map rs (λ r b. b .0) (bits .request-bits)
+
+    small : All (Fits limit) (plan limit rs)
+    small =
+        plan-small limit rs (is .0 .proper .least)
+        (all-zip rs (λ r b k. (omega (arith, b .1), k)) (bits .request-bits) (sound-counts places (is .0 .requests)))
+
+    fit : All packet.Fit packets
+    fit =
+        all-over packet.Fit (reportPacket (metricOf places cells sender rts rs streams) rs sender rts) (plan limit rs)
+        (all-map (plan limit rs) (λ q f. report-fits places cells sender rts rs streams limit q (bits .sender-bits) (bits .rts-bits) (is .0 .proper .most) f) small)
+
+    size : length (encodePackets packets) ≡ o
+    size = length-octets places cells sender rts limit n rs out ∙ sym (is .2)
+
+    content : output ≡ sets out 0 (encodePackets packets)
+    content = ap (λ (x : Outcome). x .output) (accepted-written places cells sender rts limit n rs out (is .0))
+
+    room : o ≤ length out
+    room = omega (arith, is .0 .room, size)
+
+    read : All (λ q. MetricsRead places cells rts (packet.encodePacket q)) packets
+    read =
+        all-over (λ q. MetricsRead places cells rts (packet.encodePacket q)) (reportPacket (metricOf places cells sender rts rs streams) rs sender rts) (plan limit rs)
+        (all-map (plan limit rs)
+        (λ q f.
+        metrics-read places cells sender rts rs streams q (f .blocks)
+        (report-fits places cells sender rts rs streams limit q (bits .sender-bits) (bits .rts-bits) (is .0 .proper .most) f))
+        small)
+
+    -- the reported octets are the packets
+    pub reported : take o output ≡ encodePackets packets
+    reported = ap (take o) content ∙ front (encodePackets packets) out o size room
+
+    found : packetsIn (take o output) ≡ map packet.encodePacket packets
+    found = ap packetsIn reported ∙ packets-in packets
+
+    pub report : Report places cells sender rts limit rs out output p o
+    report =
+        let d = sound-different places (is .0 .requests) in
+        let k = plan-cuts limit rs d (is .0 .proper .least) in
+        let r = cutting-read (metricOf places cells sender rts rs streams) rs d sender rts (plan limit rs) (k .known) fit in
+        record {
+          room = room;
+          past = ap (drop o) content ∙ behind (encodePackets packets) out o size room;
+          count = ap length found ∙ length-map packets packet.encodePacket ∙ length-map (plan limit rs) _ ∙ sym (is .1);
+          accepts = ap (map decode) found ∙ all-accepted packets fit;
+          cuts = rw (found, r) k;
+          cut-count = rw (found, r) (sym (is .1));
+          fewest = λ c h. omega (arith, is .1, plan-fewest limit rs c h);
+          metrics = rw found (all-over (MetricsRead places cells rts) packet.encodePacket packets read);
+        }
