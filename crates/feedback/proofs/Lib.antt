@@ -1,0 +1,4 @@
+pub mod Window
+pub mod Ranges
+pub mod Blocks
+pub mod Theorem
