@@ -1,0 +1,33 @@
+-- A header and a record are what their own octets say, whatever comes behind. Assumes nothing.
+use Prim.Native.Nat.{ℕ, _+_, _<_, _≤_}
+use mathlib.Core.Path.{_≡_}
+use mathlib.Core.List.{List, _++_}
+use native.Mathlib.Omega.{arith}
+use borrow.Author.Tests.{le-ltb}
+use lib.ListN.{length, getD, length-append, List·getD-append}
+use Rattle.octets.specs.Octets.{be16, be32}
+use Rattle.arrival_file.specs.File.{headerOf, entryOf}
+
+module _ (s t : List ℕ) where
+  front : (i : ℕ) → i < length s → getD (s ++ t) i 0 ≡ getD s i 0
+  front i h = List·getD-append s t 0 i h
+
+  front16 : (i : ℕ) → i + 2 ≤ length s → be16 (s ++ t) i ≡ be16 s i
+  unfolding be16
+  front16 i h = rw (front i (omega arith), front (i + 1) (omega arith))
+
+  front32 : (i : ℕ) → i + 4 ≤ length s → be32 (s ++ t) i ≡ be32 s i
+  unfolding be32
+  front32 i h = rw (front16 i (omega arith), front16 (i + 2) (omega arith))
+
+  pub header-front : 5 ≤ length s → headerOf (s ++ t) ≡ headerOf s
+  unfolding headerOf
+  header-front h =
+      simp
+      (le-ltb (length (s ++ t)) 5 (omega (arith, length-append s t)), le-ltb (length s) 5 h, front 0 (omega arith), front 1 (omega arith), front 2 (omega arith), front16 3 (omega arith))
+
+  pub entry-front : 12 ≤ length s → entryOf (s ++ t) ≡ entryOf s
+  unfolding entryOf
+  entry-front h =
+      simp
+      (le-ltb (length (s ++ t)) 12 (omega (arith, length-append s t)), le-ltb (length s) 12 h, front 6 (omega arith), front 7 (omega arith), front16 4 (omega arith), front32 0 (omega arith), front32 8 (omega arith))

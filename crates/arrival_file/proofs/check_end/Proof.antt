@@ -1,0 +1,31 @@
+-- `arrival_file::check_end` meets its contract. Assumes nothing.
+use borrow.Author.Tests.{eq-eqb, ne-eqb}
+use borrow.Author.Needs.{needs}
+use Rattle.arrival_file.proofs.check_end.Statement.{statement}
+use Rattle.arrival_file.proofs.check_end.Tie as tie
+
+enum-told : tie.Need-enum-told
+enum-told c = search needs
+
+enum-told-2 : tie.Need-enum-told-2
+enum-told-2 c = search needs
+
+enum-known-phase : tie.Need-enum-known-phase
+enum-known-phase c = search needs
+
+returns : tie.Need-returns
+returns c = rw (c .enum-told .given .1)
+
+returns-2 : tie.Need-returns-2
+returns-2 c = rw (c .before .enum-told2 .given .1, eq-eqb _ _ (c .if1 .taken))
+
+returns-3 : tie.Need-returns-3
+returns-3 c = rw (c .before .enum-told2 .given .1, ne-eqb _ _ (c .if1 .left))
+
+returns-4 : tie.Need-returns-4
+returns-4 c = rw (c .before .phase .given .1)
+
+pub check-end-spec : {M : Type 1} → statement M
+check-end-spec =
+    tie.close
+    (tie.spec enum-told enum-told-2 enum-known-phase returns returns-2 returns-3 returns-4)

@@ -1,0 +1,142 @@
+// Takes the records of an arrival file into a store, piece by piece.
+ghost use mathlib.Core.Path.{_≡_};
+ghost use Prim.Native.Nat.{_/_, _≤_};
+ghost use lib.ListN.{length, drop};
+ghost use lib.Seq.{sets};
+ghost use Rattle.arrival_file.specs.Pieces.{feeding, taken, advanced};
+ghost use Rattle.intake.specs.Intake.{lastKnown, recorded, entered, TakenTo, starting, outcome, fedOf};
+use arrival_file::Check;
+use arrival_file::Entry;
+use arrival_file::Phase;
+use metric::Time;
+
+// Where the taking of a file stands: its phase, the last known time so far, else 0, and how many octets are not taken yet.
+pub struct Intake {
+    pub phase: Phase,
+    pub rts: u32,
+    pub left: usize,
+}
+
+// How far the octets at hand were taken.
+pub struct Taken {
+    pub phase: Phase,
+    pub rts: u32,
+    pub at: usize,
+}
+
+// Before the first piece.
+pub fn start() -> Intake
+    ensures { λ r. ⌜ r ≡ starting ⌝ }
+{
+    Intake {
+        phase: Phase::Header,
+        rts: 0,
+        left: 0,
+    }
+}
+
+fn last_known(rts: u32, time: Time) -> u32
+    ensures { λ r. ⌜ r ≡ lastKnown rts time ⌝ }
+{
+    match time {
+        Time::Unknown => rts,
+        Time::Known(t) => t,
+    }
+}
+
+// Takes the whole records from an offset on, up to the first with a fault.
+fn take_records(places: &mut [u64], cells: &mut [u64], s: &[u8], from: usize, rts: u32) -> Taken
+    requires { ⌜ from ≤ length (now s) ⌝ }
+    ensures { λ r. ⌜ TakenTo (now (places .exit)) (now (cells .exit)) (now (s .entry)) r (taken entered (length (drop from (now (s .entry))) / 12) (recorded (now (places .entry)) (now (cells .entry)) rts) (drop from (now (s .entry)))) ⌝ }
+{
+    let mut at = from;
+    let mut last = rts;
+    while 12 <= s.len() - at {
+        let here = arrival_file::read_record(&s[at..]);
+        match here {
+            Entry::Record(r) => {
+                let time = r.time;
+                store::arrive(places, cells, r.ssrc, r.number, r.mark, time);
+                last = last_known(last, time);
+                at += 12;
+            }
+            Entry::Refused(e) => {
+                return Taken {
+                    phase: Phase::Faulty(e),
+                    rts: last,
+                    at: s.len(),
+                };
+            }
+        }
+    }
+    Taken {
+        phase: Phase::Records,
+        rts: last,
+        at: at,
+    }
+}
+
+// Takes the header, and the whole records behind it.
+fn take_file(places: &mut [u64], cells: &mut [u64], s: &[u8], rts: u32) -> Taken
+    ensures { λ r. ⌜ TakenTo (now (places .exit)) (now (cells .exit)) (now (s .entry)) r (advanced entered Phase.Header (recorded (now (places .entry)) (now (cells .entry)) rts) (now (s .entry))) ⌝ }
+{
+    if s.len() < 5 {
+        return Taken {
+            phase: Phase::Header,
+            rts: rts,
+            at: 0,
+        };
+    }
+    let header = arrival_file::check_header(s);
+    match header {
+        Check::Sound => take_records(places, cells, s, 5, rts),
+        Check::Refused(e) => Taken {
+            phase: Phase::Faulty(e),
+            rts: rts,
+            at: s.len(),
+        },
+    }
+}
+
+// Takes what is whole of the octets at hand.
+fn take(places: &mut [u64], cells: &mut [u64], s: &[u8], phase: Phase, rts: u32) -> Taken
+    ensures { λ r. ⌜ TakenTo (now (places .exit)) (now (cells .exit)) (now (s .entry)) r (advanced entered phase (recorded (now (places .entry)) (now (cells .entry)) rts) (now (s .entry))) ⌝ }
+{
+    match phase {
+        Phase::Header => take_file(places, cells, s, rts),
+        Phase::Records => take_records(places, cells, s, 0, rts),
+        Phase::Faulty(e) => Taken {
+            phase: Phase::Faulty(e),
+            rts: rts,
+            at: s.len(),
+        },
+    }
+}
+
+// Moves the octets from an offset on to the front.
+fn move_to_front(s: &mut [u8], from: usize)
+    requires { ⌜ from ≤ length (now s) ⌝ }
+    ensures { λ _. ⌜ now (s .exit) ≡ sets (now (s .entry)) 0 (drop from (now (s .entry))) ⌝ }
+{
+    let mut i = 0;
+    while i < s.len() - from {
+        s[i] = s[from + i];
+        i += 1;
+    }
+}
+
+// Takes the next piece of a file. `octets` are those that the pieces before left, and behind them the piece; those that are left now are moved to the front.
+pub fn feed(places: &mut [u64], cells: &mut [u64], intake: Intake, octets: &mut [u8]) -> Intake
+    ensures { λ r. ⌜ outcome r (now (places .exit)) (now (cells .exit)) (now (octets .exit)) ≡ fedOf (now (places .entry)) (now (cells .entry)) intake (now (octets .entry)) ⌝ }
+{
+    let before = intake.phase;
+    let t = take(places, cells, octets, before, intake.rts);
+    let phase = t.phase;
+    let at = t.at;
+    move_to_front(octets, at);
+    Intake {
+        phase: phase,
+        rts: t.rts,
+        left: octets.len() - at,
+    }
+}

@@ -1,0 +1,180 @@
+-- The report on four numbers of each stream is one packet at most, and so one line. Assumes nothing.
+use Prim.Native.Nat.{ℕ, suc, _+_, _-_, _*_, _≤_}
+use mathlib.Core.Path.{_≡_, refl, sym, ap, _∙_, subst}
+use mathlib.Core.Bool.{Bool, true, false, cond}
+use mathlib.Core.List.{List, [], _∷_, append-nil, map}
+use native.Mathlib.Omega.{arith}
+use borrow.Author.Tests.{le-ltb}
+use lib.ListN.{length, take, drop, length-take}
+use lib.Seq.{sets, sets-eq, take-at}
+use lib.Dec.{ltb}
+use Rattle.refusal.specs.Lists.{All}
+use Rattle.refusal.specs.declared.Refusal.{Refusal}
+use Rattle.refusal.specs.declared.Refusal.the-variants.{BadStore, BadLimit, TooManyRequests}
+use Rattle.store.specs.Place.{readPlace}
+use Rattle.store.specs.Store.{shaped}
+use Rattle.store.specs.declared.Holding.{Holding}
+use Rattle.store.specs.declared.Holding.the-variants.{Free, Held}
+use Rattle.packet.specs.Packet as packet
+use Rattle.cutting.specs.Cutting.{Packet, Cutting, blockOctets, blocksOctets, packetOctets, wholeBlocks}
+use Rattle.cutting.specs.Plan.{onto, filledFrom, plan, totalOctets}
+use Rattle.cutting.specs.declared.Request.{Request}
+use Rattle.cutting.specs.declared.NextBlock.the-variants.{Whole}
+use Rattle.cutting.proofs.Plan.{next-whole, filled-none, filled-by, plan-none, plan-step}
+use Rattle.writer.specs.Packets.{metricIn, reportPacket, encodePackets, packetsFor}
+use Rattle.writer.specs.Requests.{checked}
+use Rattle.writer.specs.Written as writer
+use Rattle.writer.specs.declared.Verdict.{Verdict}
+use Rattle.writer.specs.declared.Verdict.the-variants.{Sound, Fault}
+use Rattle.writer.specs.declared.Answer.{Answer}
+use Rattle.writer.specs.declared.Answer.the-variants.{Written, Refused}
+use Rattle.writer.proofs.Packets.{length-report}
+use Rattle.cutting.specs.Cutting.{streamOf}
+use Rattle.line_text.specs.Text.{hexLine, refusedLine, Outcome, outcome, put}
+use Rattle.line_text.proofs.Writing.{length-line, length-refused}
+use Rattle.arrival_file.specs.File.{endOf}
+use Rattle.arrival_file.specs.declared.Check.{Check}
+use Rattle.arrival_file.specs.declared.Check.the-variants as check
+use Rattle.intake.specs.declared.Intake.{Intake}
+use Rattle.line.specs.Line.{askedOf, newest, linesOf, ifSound, reportText, finishedText}
+
+-- ---- the requests
+
+abbrev Four : List Request → Type 0
+Four rs = All (λ r. r .count ≡ 4) rs
+
+asked-four : (h : Holding) (rs : List Request) → Four rs → Four (askedOf h rs)
+asked-four Free rs f = f
+asked-four (Held ssrc highest) rs f = (refl, f)
+
+newest-four : (places : List ℕ) → Four (newest places)
+unfolding newest
+newest-four [] = tt
+newest-four (word ∷ places) = asked-four (readPlace word) (newest places) (newest-four places)
+
+-- ---- the plan
+
+filled-all : (rs : List Request) (i room : ℕ) → Four rs → 16 * length rs ≤ room → filledFrom room (wholeBlocks i rs) ≡ record { packet = wholeBlocks i rs; rest = [] }
+filled-all [] i room f h = filled-none room
+filled-all (r ∷ rs) i room f h =
+    let n : blockOctets (r .count) ≡ 16 = ap blockOctets (f .0) in
+    filled-by room (record { request = i; begin = r .begin; count = r .count }) (wholeBlocks (suc i) rs) Whole (next-whole room (r .count) (omega arith))
+    ∙ ap (λ q. onto (record { request = i; begin = r .begin; count = r .count }) q)
+    (filled-all rs (suc i) (room - blockOctets (r .count)) (f .1) (omega arith))
+
+octets-all : (rs : List Request) (i : ℕ) → Four rs → blocksOctets (wholeBlocks i rs) ≡ 16 * length rs
+octets-all [] i f = refl
+octets-all (r ∷ rs) i f =
+    let n : blockOctets (r .count) ≡ 16 = ap blockOctets (f .0) in
+    omega (arith, octets-all rs (suc i) (f .1))
+
+-- at most one packet
+one-packet : (rs : List Request) → Four rs → length rs ≤ 16 → (length (plan 1200 rs) ≤ 1) × (totalOctets (plan 1200 rs) ≤ 268)
+one-packet [] f h = rw (plan-none 1200) (omega arith, omega arith)
+one-packet (r ∷ rs) f h =
+    let e : filledFrom 1188 (wholeBlocks 0 (r ∷ rs)) ≡ record { packet = wholeBlocks 0 (r ∷ rs); rest = [] } = filled-all (r ∷ rs) 0 1188 f (omega arith) in
+    rw (plan-step 1200 (record { request = 0; begin = r .begin; count = r .count }) (wholeBlocks 1 rs) (omega arith), e, plan-none 1200)
+    (omega arith, omega (arith, octets-all (r ∷ rs) 0 f))
+
+-- ---- the line
+
+module _ (of : Packet → packet.Packet) (size : (p : Packet) → length (packet.encodePacket (of p)) ≡ packetOctets p) where
+  one-line : (c : Cutting) (out : List ℕ) → length c ≤ 1 → totalOctets c ≤ length out
+      → (length c ≡ 0 → linesOf (map of c) ≡ []) × ((length c ≡ 0 → ⊥) → linesOf (map of c) ≡ hexLine (take (totalOctets c) (sets out 0 (encodePackets (map of c)))))
+  unfolding linesOf encodePackets
+  one-line [] out l h = (λ z. refl, λ z. absurd (z refl))
+  one-line (p ∷ []) out l h =
+      let x = packet.encodePacket (of p) in
+      let n : totalOctets (p ∷ []) ≡ length x = omega (arith, size p) in
+      let t : take (length x) (sets out 0 x) ≡ x = rw (sets-eq x out 0 (omega arith)) (take-at x (drop (0 + length x) out) (length x) refl) in
+      (λ z. absurd (omega arith), λ z. rw (n, append-nil (hexLine x), append-nil x, t))
+  one-line (p ∷ q ∷ c) out l h = absurd (omega arith)
+
+-- what the writer's answer and the octets of its output are to the text
+abbrev Says : Answer → List ℕ → List ℕ → Type 0
+Says (Written packets octets) exit text =
+    (octets ≤ 268) × ((packets ≡ 0 → text ≡ []) × ((packets ≡ 0 → ⊥) → text ≡ hexLine (take octets exit)))
+Says (Refused e) exit text = text ≡ refusedLine e
+
+module _ (places cells : List ℕ) (rts n : ℕ) (out : List ℕ) (rs : List Request) (few : n ≤ 16) (room : length out ≡ 268) (asked : rs ≡ newest places) (all : length rs ≤ 16) where
+  says-put : Says (writer.put (plan 1200 rs) (packetsFor places cells 241 rts 1200 rs) out .answer) (writer.put (plan 1200 rs) (packetsFor places cells 241 rts 1200 rs) out .output) (linesOf (packetsFor places cells 241 rts 1200 rs))
+  unfolding writer.put
+  says-put =
+      let four : Four rs = rw asked (newest-four places) in
+      let one = one-packet rs four all in
+      rw (le-ltb (length out) (totalOctets (plan 1200 rs)) (omega (arith, one .1)))
+      (one .1, one-line (reportPacket (λ i. metricIn places cells rts (streamOf rs i)) rs 241 rts) (length-report (λ i. metricIn places cells rts (streamOf rs i)) rs 241 rts) (plan 1200 rs) out (one .0) (omega (arith, one .1)))
+
+  says-by : (b : Bool) (v : Verdict)
+      → let w : writer.Outcome =
+      cond b
+      (cond (ltb 1200 24) (writer.refused BadLimit out)
+      (cond (ltb 9000 1200) (writer.refused BadLimit out)
+      (cond (ltb 16 n) (writer.refused TooManyRequests out)
+      (writer.ifSound v (writer.put (plan 1200 rs) (packetsFor places cells 241 rts 1200 rs) out) out))))
+      (writer.refused BadStore out) in
+      Says (w .answer) (w .output) (cond b (ifSound v (linesOf (packetsFor places cells 241 rts 1200 rs))) (refusedLine BadStore))
+  says-by true Sound = rw (le-ltb 16 n few) says-put
+  says-by true (Fault e) = rw (le-ltb 16 n few) refl
+  says-by false v = refl
+
+  -- the writer's answer says what is printed
+  says-written : (a : Answer) (exit : List ℕ) → writer.outcome a exit ≡ writer.written places cells 241 rts 1200 n rs out → Says a exit (reportText places cells rts)
+  unfolding writer.written reportText
+  says-written a exit e =
+      subst (λ (w : writer.Outcome). Says (w .answer) (w .output) (reportText places cells rts)) (sym e)
+      (rw (← asked) (says-by (shaped places cells) (checked places [] rs)))
+
+-- the same of an answer that the code has in hand
+pub record Said (a : Answer) (exit text : List ℕ) : Type 0 where
+  pub room : (packets octets : ℕ) → a ≡ Written packets octets → octets ≤ 268
+  pub none : (packets octets : ℕ) → a ≡ Written packets octets → packets ≡ 0 → text ≡ []
+  pub line : (packets octets : ℕ) → a ≡ Written packets octets → (packets ≡ 0 → ⊥) → text ≡ hexLine (take octets exit)
+  pub refused : (q : Refusal) → a ≡ Refused q → text ≡ refusedLine q
+
+pub said : (places cells : List ℕ) (rts n : ℕ) (out : List ℕ) (requests : List Request) → n ≤ 16 → 268 ≡ length out → take n requests ≡ newest places → (a : Answer) (exit : List ℕ)
+    → writer.outcome a exit ≡ writer.written places cells 241 rts 1200 n (take n requests) out → Said a exit (reportText places cells rts)
+said places cells rts n out requests few room asked a exit e =
+    record {
+      room = λ p o is. says (Written p o) is .0;
+      none = λ p o is. says (Written p o) is .1 .0;
+      line = λ p o is. says (Written p o) is .1 .1;
+      refused = λ q is. says (Refused q) is;
+    }
+  where
+    says : (b : Answer) → a ≡ b → Says b exit (reportText places cells rts)
+    says b is =
+        subst (λ (x : Answer). Says x exit (reportText places cells rts)) is
+        (says-written places cells rts n out (take n requests) few (sym room) asked (omega (arith, length-take n requests)) a exit e)
+
+-- ---- what is written
+
+pub line-room : (o : ℕ) (exit out : List ℕ) → o ≤ 268 → 537 ≤ length out → 2 * length (take o exit) + 1 ≤ length out
+line-room o exit out h l = omega (arith, length-take o exit)
+
+module _ (out text : List ℕ) where
+  pub put-nothing : text ≡ [] → (outcome 0 out ≡ put out text) × (0 ≤ 537)
+  put-nothing e = (rw e, omega arith)
+
+  module _ (r : ℕ) (exit : List ℕ) where
+    pub put-refused : (q : Refusal) → text ≡ refusedLine q → outcome r exit ≡ put out (refusedLine q) → (outcome r exit ≡ put out text) × (r ≤ 537)
+    put-refused q e h = (rw e h, let n : r ≡ length (refusedLine q) = ap (λ (x : Outcome). x .octets) h in omega (arith, length-refused q))
+
+    pub put-packet : (o : ℕ) (packet : List ℕ) → o ≤ 268 → text ≡ hexLine (take o packet) → outcome r exit ≡ put out (hexLine (take o packet)) → (outcome r exit ≡ put out text) × (r ≤ 537)
+    put-packet o packet l e h =
+        (rw e h, let n : r ≡ length (hexLine (take o packet)) = ap (λ (x : Outcome). x .octets) h in omega (arith, length-line (take o packet), length-take o packet))
+
+    -- the same text
+    pub put-as : (other : List ℕ) → text ≡ other → (outcome r exit ≡ put out other) × (r ≤ 537) → (outcome r exit ≡ put out text) × (r ≤ 537)
+    put-as other e h = (rw e (h .0), h .1)
+
+-- ---- the end of a file
+
+module _ (places cells : List ℕ) (i : Intake) (v : Check) (e : v ≡ endOf (i .phase) (i .left)) where
+  pub whole-text : v ≡ check.Sound → finishedText places cells i ≡ reportText places cells (i .rts)
+  unfolding finishedText
+  whole-text h = rw (← e, h)
+
+  pub faulty-text : (q : Refusal) → v ≡ check.Refused q → finishedText places cells i ≡ refusedLine q
+  unfolding finishedText
+  faulty-text q h = rw (← e, h)

@@ -1,0 +1,74 @@
+// The lines that ccfbline prints: a packet in hex, a refusal.
+ghost use mathlib.Core.Path.{_≡_};
+ghost use mathlib.Core.List.{_++_};
+ghost use Prim.Native.Nat.{_+_, _*_, _≤_, _<_};
+ghost use lib.ListN.{length};
+ghost use lib.Seq.{sets};
+ghost use Rattle.line_text.specs.Text.{digitOf, hexOf, hexLine, refusedText, refusedLine, outcome, put};
+use refusal::Refusal;
+
+// A digit of lower-case hex.
+fn hex_digit(n: u8) -> u8
+    requires { ⌜ n < 16 ⌝ }
+    ensures { λ r. ⌜ r ≡ digitOf n ⌝ }
+{
+    if n < 10 { b'0' + n } else { 87 + n }
+}
+
+// Writes the octets of a packet in hex to the front of the output.
+fn put_hex(out: &mut [u8], packet: &[u8])
+    requires { ⌜ 2 * length (now packet) ≤ length (now out) ⌝ }
+    ensures { λ _. ⌜ now (out .exit) ≡ sets (now (out .entry)) 0 (hexOf (now (packet .entry))) ⌝ }
+{
+    let mut i = 0;
+    while i < packet.len() {
+        let x = packet[i];
+        out[2 * i] = hex_digit(x / 16);
+        out[2 * i + 1] = hex_digit(x % 16);
+        i += 1;
+    }
+}
+
+// Writes a packet as one line of hex.
+pub fn put_line(out: &mut [u8], packet: &[u8]) -> usize
+    requires { ⌜ 2 * length (now packet) + 1 ≤ length (now out) ⌝ }
+    ensures { λ r. ⌜ outcome r (now (out .exit)) ≡ put (now (out .entry)) (hexLine (now (packet .entry))) ⌝ }
+{
+    put_hex(out, packet);
+    let end = 2 * packet.len();
+    out[end] = b'\n';
+    end + 1
+}
+
+// Writes `refused ` to the front of the output.
+fn put_refused(out: &mut [u8])
+    requires { ⌜ 8 ≤ length (now out) ⌝ }
+    ensures { λ _. ⌜ now (out .exit) ≡ sets (now (out .entry)) 0 refusedText ⌝ }
+{
+    out[0] = b'r';
+    out[1] = b'e';
+    out[2] = b'f';
+    out[3] = b'u';
+    out[4] = b's';
+    out[5] = b'e';
+    out[6] = b'd';
+    out[7] = b' ';
+}
+
+// Writes the line of a refusal.
+pub fn put_refusal(out: &mut [u8], e: Refusal) -> usize
+    requires { ⌜ 11 ≤ length (now out) ⌝ }
+    ensures { λ r. ⌜ outcome r (now (out .exit)) ≡ put (now (out .entry)) (refusedLine e) ⌝ }
+{
+    put_refused(out);
+    let n = refusal::number(e);
+    if n < 10 {
+        out[8] = b'0' + n;
+        out[9] = b'\n';
+        return 10;
+    }
+    out[8] = b'0' + n / 10;
+    out[9] = b'0' + n % 10;
+    out[10] = b'\n';
+    11
+}
