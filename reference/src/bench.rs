@@ -1,6 +1,10 @@
 //! The benchmark: each row runs the same work on libccfb.a and on the baseline.
 
+mod ccfbline;
 mod metric;
+mod packet;
+mod store;
+mod writer;
 
 use std::time::{Duration, Instant};
 
@@ -8,30 +12,36 @@ const RUNS: u32 = 30;
 
 /// A row of the table: nanoseconds for one step, ours `None` without libccfb.a.
 pub struct Row {
-    pub name: &'static str,
+    pub name: String,
     pub ours: Option<f64>,
     pub baseline: f64,
 }
 
 /// Every row, in order.
 pub fn rows() -> Vec<Row> {
-    metric::rows()
+    let mut rows = metric::rows();
+    rows.extend(store::rows());
+    rows.extend(packet::rows());
+    rows.extend(writer::rows());
+    rows.extend(ccfbline::rows());
+    rows
 }
 
-/// Best of the runs, ours and the baseline in turn so that both meet the same machine. `work` is
-/// given the calls and does `steps` steps.
-fn row<C: Copy>(
-    name: &'static str,
-    ours: Option<C>,
-    baseline: C,
-    steps: u32,
-    mut work: impl FnMut(C),
+/// Best of the runs, ours and the baseline in turn so that both meet the same machine. A run does
+/// `steps` steps; `prepare` goes before it, untimed.
+fn row<C: Copy, S>(
+    name: &str,
+    (ours, baseline): (Option<C>, C),
+    steps: usize,
+    mut prepare: impl FnMut(C) -> S,
+    work: impl Fn(C, &mut S),
 ) -> Row {
     let mut timed = |calls: C| {
         // The table passes through black_box, so that no call is known when this is compiled.
         let calls = std::hint::black_box(calls);
+        let mut state = prepare(calls);
         let start = Instant::now();
-        work(calls);
+        work(calls, &mut state);
         start.elapsed()
     };
     let mut best = (Duration::MAX, Duration::MAX);
@@ -41,6 +51,6 @@ fn row<C: Copy>(
         }
         best.1 = best.1.min(timed(baseline));
     }
-    let a_step = |time: Duration| time.as_nanos() as f64 / f64::from(steps);
-    Row { name, ours: ours.map(|_| a_step(best.0)), baseline: a_step(best.1) }
+    let a_step = |time: Duration| time.as_nanos() as f64 / steps as f64;
+    Row { name: name.to_string(), ours: ours.map(|_| a_step(best.0)), baseline: a_step(best.1) }
 }

@@ -1,7 +1,9 @@
-//! The C functions of each subject as a table of pointers, so that the product and the baseline
-//! are called in one way, and safe wrappers for the comparison.
+//! The C functions of each subject, and safe wrappers of them for the comparison.
 
 pub mod metric;
+pub mod packet;
+pub mod store;
+pub mod writer;
 
 /// What a wrapper answers for a call that refused and yet wrote an out-parameter.
 pub const TOUCHED: u8 = 255;

@@ -1,9 +1,22 @@
 //! The comparison of the reference with libccfb.a, or with the baseline, subject by subject.
 
+mod ccfbline;
+mod lent_words;
 mod metric;
+mod packet;
+mod packets;
+mod pair;
+mod requests;
+mod store;
+mod writer;
 
-use crate::{baseline, ffi, rng};
-use std::fmt::Debug;
+use crate::calls::metric::MetricCalls;
+use crate::calls::packet::PacketCalls;
+use crate::calls::store::StoreCalls;
+use crate::calls::writer::WriterCalls;
+use crate::refusal::Refusal;
+use crate::{baseline, program, rng};
+use std::fmt::{self, Debug, Formatter};
 
 /// The line that tells of a mismatch.
 pub type Mismatch = String;
@@ -13,6 +26,15 @@ pub type Mismatch = String;
 pub enum With {
     Product,
     Baseline,
+}
+
+impl With {
+    fn of<T>(self, product: Option<T>, baseline: T) -> Option<T> {
+        match self {
+            With::Product => product,
+            With::Baseline => Some(baseline),
+        }
+    }
 }
 
 /// Counts the comparisons of a subject, and says where one failed.
@@ -35,27 +57,71 @@ impl Tally {
         if ours == reference {
             return Ok(());
         }
+        let shown = |value: &dyn Debug| {
+            let text = format!("{value:?}");
+            text.get(..3_000).map_or(text.clone(), |start| format!("{start}..."))
+        };
+        let (input, ours, reference) = (shown(input), shown(&ours), shown(&reference));
         let Tally { name, seed, case, .. } = self;
         Err(format!(
-            "MISMATCH {name} seed {seed} case {case}: input {input:x?} ours {ours:x?} reference {reference:x?}"
+            "MISMATCH {name} seed {seed} case {case}: input {input} ours {ours} reference {reference}"
         ))
     }
 }
 
+/// Octets, shown as hex without spaces.
+#[derive(Clone, Copy, PartialEq, Eq)]
+struct Hex<'a>(&'a [u8]);
+
+impl Debug for Hex<'_> {
+    fn fmt(&self, f: &mut Formatter) -> fmt::Result {
+        write!(f, "{} octets ", self.0.len())?;
+        self.0.iter().try_for_each(|octet| write!(f, "{octet:02x}"))
+    }
+}
+
+/// An output before the call.
+fn unwritten(room: usize) -> Vec<u8> {
+    (0..room).map(|at| (at * 7 + 1) as u8).collect()
+}
+
+/// The same output after a call that answered this and wrote these octets.
+fn output(room: usize, written: &Result<Vec<u8>, u8>) -> Vec<u8> {
+    let mut out = unwritten(room);
+    if let Ok(written) = written {
+        out[..written.len()].copy_from_slice(written);
+    }
+    out
+}
+
+/// The reference's answer, with the refusal as its number.
+fn numbered<T>(answer: Result<T, Refusal>) -> Result<T, u8> {
+    answer.map_err(Refusal::number)
+}
+
 /// The names of the subjects, in order.
-pub const SUBJECTS: [&str; 1] = ["metric"];
+pub const SUBJECTS: [&str; 5] = ["metric", "store", "packet", "writer", "ccfbline"];
 
 /// Runs a subject: the line to print, a mismatch, or `None` if this build cannot reach it.
 pub fn run(name: &str, with: With) -> Option<Result<String, Mismatch>> {
-    let product = with == With::Product;
     let name = SUBJECTS.into_iter().find(|subject| *subject == name)?;
     let mut tally = Tally { name, seed: rng::seed(), case: 0, comparisons: 0 };
+    let tally = &mut tally;
     let result = match name {
         "metric" => {
-            let calls = if product { ffi::metric()? } else { baseline::metric::BASELINE };
-            metric::run(&calls, &mut tally)
+            metric::run(&with.of(MetricCalls::product(), baseline::metric::BASELINE)?, tally)
         }
-        _ => return None,
+        "store" => store::run(&with.of(StoreCalls::product(), baseline::store::BASELINE)?, tally),
+        "packet" => {
+            packet::run(&with.of(PacketCalls::product(), baseline::packet::BASELINE)?, tally)
+        }
+        "writer" => {
+            writer::run(&with.of(WriterCalls::product(), baseline::writer::BASELINE)?, tally)
+        }
+        _ => {
+            let product = cfg!(feature = "ccfbline").then(program::product);
+            ccfbline::run(&with.of(product, program::baseline())?, tally)
+        }
     };
     Some(result.map(|()| format!("ok {name}: {} comparisons", tally.comparisons)))
 }

@@ -1,17 +1,30 @@
-//! libccfb.a: its functions, a subject each, as far as this build has them.
+//! The C functions of a subject as a table of pointers, so that the product and the baseline are
+//! called in one way.
 
-use crate::calls::metric::MetricCalls;
+/// Makes the table from the C signatures, and the product's own table: the functions of libccfb.a,
+/// if this build has the library and the subject's feature.
+macro_rules! c_functions {
+    ($table:ident, $feature:tt: $($field:ident = $symbol:ident($($argument:ty),*);)*) => {
+        #[derive(Clone, Copy)]
+        pub struct $table {
+            $(pub $field: unsafe extern "C" fn($($argument),*) -> u8,)*
+        }
 
-#[cfg(all(product, feature = "metric"))]
-pub fn metric() -> Option<MetricCalls> {
-    extern "C" {
-        fn ccfb_encode_metric(mark: u8, known: bool, time: u32, rts: u32, metric: *mut u16) -> u8;
-        fn ccfb_decode_metric(metric: u16, mark: *mut u8, offset: *mut u16) -> u8;
-    }
-    Some(MetricCalls { encode: ccfb_encode_metric, decode: ccfb_decode_metric })
+        impl $table {
+            #[cfg(all(product, feature = $feature))]
+            pub fn product() -> Option<$table> {
+                extern "C" {
+                    $(fn $symbol($(_: $argument),*) -> u8;)*
+                }
+                Some($table { $($field: $symbol),* })
+            }
+
+            #[cfg(not(all(product, feature = $feature)))]
+            pub fn product() -> Option<$table> {
+                None
+            }
+        }
+    };
 }
 
-#[cfg(not(all(product, feature = "metric")))]
-pub fn metric() -> Option<MetricCalls> {
-    None
-}
+pub(crate) use c_functions;

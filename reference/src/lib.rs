@@ -5,11 +5,19 @@
 //! `compare` sets it beside libccfb.a, and `baseline` is plain fast Rust on the product's own
 //! layout, which `bench` measures the product against.
 
+pub mod arrival_file;
 pub mod baseline;
 pub mod bench;
 pub mod calls;
+pub mod ccfbline;
 pub mod compare;
+pub mod cutting;
 pub mod ffi;
+pub mod lent;
 pub mod metric;
+pub mod packet;
+pub mod program;
 pub mod refusal;
 pub mod rng;
+pub mod store;
+pub mod writer;

@@ -33,11 +33,11 @@ impl Rng {
     /// The generator of one case: it depends on the seed and the case alone.
     pub fn of_case(seed: u64, case: u64) -> Rng {
         let mut rng = Rng(seed ^ case.wrapping_mul(0xD1B5_4A32_D192_ED03));
-        rng.next();
+        rng.u64();
         rng
     }
 
-    pub fn next(&mut self) -> u64 {
+    pub fn u64(&mut self) -> u64 {
         self.0 = self.0.wrapping_add(0x9E37_79B9_7F4A_7C15);
         let mut z = self.0;
         z = (z ^ (z >> 30)).wrapping_mul(0xBF58_476D_1CE4_E5B9);
@@ -46,16 +46,16 @@ impl Rng {
     }
 
     pub fn u32(&mut self) -> u32 {
-        (self.next() >> 32) as u32
+        (self.u64() >> 32) as u32
     }
 
     pub fn u16(&mut self) -> u16 {
-        (self.next() >> 48) as u16
+        (self.u64() >> 48) as u16
     }
 
     /// A number below `bound`, which is not 0.
     pub fn below(&mut self, bound: u64) -> u64 {
-        ((u128::from(self.next()) * u128::from(bound)) >> 64) as u64
+        ((u128::from(self.u64()) * u128::from(bound)) >> 64) as u64
     }
 
     /// True once in `n` times.

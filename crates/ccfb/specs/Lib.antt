@@ -1,1 +1,5 @@
+pub mod Called
 pub mod Metrics
+pub mod Arrivals
+pub mod Packets
+pub mod Writing

@@ -8,13 +8,8 @@ pub const BASELINE: MetricCalls = MetricCalls { encode, decode };
 #[inline]
 pub fn encoded(mark: u8, known: bool, time: u32, rts: u32) -> u16 {
     let age = rts.wrapping_sub(time);
-    let offset = if !known || age >> 31 == 1 {
-        0x1FFF
-    } else if age > 524_096 {
-        0x1FFE
-    } else {
-        (age >> 6) as u16
-    };
+    let near = if age > 524_096 { 0x1FFE } else { (age >> 6) as u16 };
+    let offset = if !known | (age >> 31 == 1) { 0x1FFF } else { near };
     0x8000 | (u16::from(mark) << 13) | offset
 }
 
@@ -27,8 +22,9 @@ unsafe extern "C" fn encode(mark: u8, known: bool, time: u32, rts: u32, metric: 
     0
 }
 
-#[inline(never)]
-unsafe extern "C" fn decode(metric: u16, mark: *mut u8, offset: *mut u16) -> u8 {
+/// The case of a metric; writes mark and offset where the case has them.
+#[inline]
+pub(super) unsafe fn decoded(metric: u16, mark: *mut u8, offset: *mut u16) -> u8 {
     if metric < 0x8000 {
         return 0;
     }
@@ -41,4 +37,9 @@ unsafe extern "C" fn decode(metric: u16, mark: *mut u8, offset: *mut u16) -> u8 
             1
         }
     }
+}
+
+#[inline(never)]
+unsafe extern "C" fn decode(metric: u16, mark: *mut u8, offset: *mut u16) -> u8 {
+    decoded(metric, mark, offset)
 }

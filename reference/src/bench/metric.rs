@@ -2,36 +2,51 @@
 
 use super::{row, Row};
 use crate::baseline::metric::BASELINE;
-use crate::ffi;
+use crate::calls::metric::MetricCalls;
 use crate::rng::Rng;
 use std::hint::black_box;
 
 const METRICS: usize = 16_384;
 
+const RTS: u32 = 0x0100_0000;
+
 pub fn rows() -> Vec<Row> {
-    let ours = ffi::metric();
+    vec![encode_row(), decode_row()]
+}
+
+fn encode_row() -> Row {
     let mut rng = Rng::of_case(8888, 0);
-    let rts = 0x0005_0000;
-    let cells: Vec<(u8, bool, u32)> = (0..METRICS)
-        .map(|_| {
-            let age = rng.below(600_000) as u32;
-            (rng.below(4) as u8, !rng.one_in(16), u32::wrapping_sub(rts, age))
-        })
-        .collect();
-    let metrics: Vec<u16> = (0..METRICS).map(|_| rng.u16()).collect();
-    let steps = METRICS as u32;
-    vec![
-        row("metric encode", ours, BASELINE, steps, |calls| {
+    let mut cell = || (rng.below(4) as u8, !rng.one_in(16), RTS - rng.below(600_000) as u32);
+    let cells: Vec<(u8, bool, u32)> = (0..METRICS).map(|_| cell()).collect();
+    let calls = (MetricCalls::product(), BASELINE);
+    row(
+        "metric encode",
+        calls,
+        METRICS,
+        |_| (),
+        |calls, _| {
             let mut sum = 0u32;
             for &(mark, known, time) in &cells {
                 let mut metric = 0;
                 // SAFETY: the pointer is to a local of its type.
-                unsafe { (calls.encode)(mark, known, time, rts, &mut metric) };
+                unsafe { (calls.encode)(mark, known, time, RTS, &mut metric) };
                 sum = sum.wrapping_add(u32::from(metric));
             }
             black_box(sum);
-        }),
-        row("metric decode", ours, BASELINE, steps, |calls| {
+        },
+    )
+}
+
+fn decode_row() -> Row {
+    let mut rng = Rng::of_case(8888, 1);
+    let metrics: Vec<u16> = (0..METRICS).map(|_| rng.u16()).collect();
+    let calls = (MetricCalls::product(), BASELINE);
+    row(
+        "metric decode",
+        calls,
+        METRICS,
+        |_| (),
+        |calls, _| {
             let mut sum = 0u32;
             for &metric in &metrics {
                 let (mut mark, mut offset) = (0, 0);
@@ -40,6 +55,6 @@ pub fn rows() -> Vec<Row> {
                 sum = sum.wrapping_add(u32::from(case) + u32::from(mark) + u32::from(offset));
             }
             black_box(sum);
-        }),
-    ]
+        },
+    )
 }

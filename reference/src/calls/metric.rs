@@ -1,12 +1,12 @@
 //! Metric calls.
 
 use super::{answer, TOUCHED};
+use crate::ffi::c_functions;
 use crate::metric::Reading;
 
-#[derive(Clone, Copy)]
-pub struct MetricCalls {
-    pub encode: unsafe extern "C" fn(u8, bool, u32, u32, *mut u16) -> u8,
-    pub decode: unsafe extern "C" fn(u16, *mut u8, *mut u16) -> u8,
+c_functions! { MetricCalls, "metric":
+    encode = ccfb_encode_metric(u8, bool, u32, u32, *mut u16);
+    decode = ccfb_decode_metric(u16, *mut u8, *mut u16);
 }
 
 impl MetricCalls {

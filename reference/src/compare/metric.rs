@@ -1,6 +1,6 @@
 //! Metric: every decode, every edge age with every mark, and random ages and times.
 
-use super::{Mismatch, Tally};
+use super::{numbered, Mismatch, Tally};
 use crate::calls::metric::MetricCalls;
 use crate::metric::{decode, encode, Received};
 use crate::rng::{rounds, Rng};
@@ -32,8 +32,7 @@ fn compare_encode(
     idle: u32,
 ) -> Result<(), Mismatch> {
     let ours = calls.encode(received.mark, received.time, idle, rts);
-    let reference = encode(Some(received), rts).map_err(|refusal| refusal.number());
-    tally.same(&("encode", received, rts, idle), ours, reference)
+    tally.same(&("encode", received, rts, idle), ours, numbered(encode(Some(received), rts)))
 }
 
 fn edges(calls: &MetricCalls, tally: &mut Tally) -> Result<(), Mismatch> {

@@ -1,8 +1,8 @@
--- `ccfb::ccfb_encode_metric` meets its contract. Assumes nothing.
-use Rattle.ccfb.proofs.Metrics.{encode-refused, encode-accepted}
+-- `ccfb::metrics::ccfb_encode_metric` meets its contract. Assumes nothing.
+use Rattle.ccfb.proofs.Told.{encode-refused, encode-accepted}
 use borrow.Author.Needs.{needs}
-use Rattle.ccfb.proofs.ccfb_encode_metric.Statement.{statement}
-use Rattle.ccfb.proofs.ccfb_encode_metric.Tie as tie
+use Rattle.ccfb.proofs.metrics.ccfb_encode_metric.Statement.{statement}
+use Rattle.ccfb.proofs.metrics.ccfb_encode_metric.Tie as tie
 
 number-requires : tie.Need-number-requires
 number-requires c κs = search needs

@@ -1,8 +1,8 @@
--- `ccfb::time_of` meets its contract. Assumes nothing.
+-- `ccfb::metrics::time_of` meets its contract. Assumes nothing.
 use mathlib.Core.Path.{_≡_}
 use borrow.Author.Needs.{needs}
-use Rattle.ccfb.proofs.time_of.Statement.{statement}
-use Rattle.ccfb.proofs.time_of.Tie as tie
+use Rattle.ccfb.proofs.metrics.time_of.Statement.{statement}
+use Rattle.ccfb.proofs.metrics.time_of.Tie as tie
 
 returns : tie.Need-returns
 returns c = rw (c .if1 .taken)

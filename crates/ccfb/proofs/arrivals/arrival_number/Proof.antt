@@ -1,0 +1,24 @@
+-- `ccfb::arrivals::arrival_number` meets its contract. Assumes nothing.
+use mathlib.Core.Path.{_≡_}
+use borrow.Author.Needs.{needs}
+use Rattle.ccfb.proofs.arrivals.arrival_number.Statement.{statement}
+use Rattle.ccfb.proofs.arrivals.arrival_number.Tie as tie
+
+enum-told : tie.Need-enum-told
+enum-told c = search needs
+
+enum-known-answer : tie.Need-enum-known-answer
+enum-known-answer c = search needs
+
+number-requires : tie.Need-number-requires
+number-requires c κs = search needs
+
+returns : tie.Need-returns
+returns c = search needs
+
+returns-2 : tie.Need-returns-2
+returns-2 c = rw (c .before .before .answer .given .1) (c .number .ensures)
+
+pub arrival-number-spec : {M : Type 1} → statement M
+arrival-number-spec =
+    tie.close (tie.spec enum-told enum-known-answer number-requires returns returns-2)

@@ -1,0 +1,72 @@
+//! The arrival file: its records, or its first fault.
+
+use crate::metric::Received;
+use crate::refusal::Refusal;
+
+#[derive(Clone, Copy, Debug, PartialEq, Eq)]
+pub struct Record {
+    pub ssrc: u32,
+    pub number: u16,
+    pub received: Received,
+}
+
+/// The octets of a record.
+pub const RECORD: usize = 12;
+
+pub fn records(file: &[u8]) -> Result<Vec<Record>, Refusal> {
+    let (header, records) = file.split_at_checked(5).ok_or(Refusal::FileMark)?;
+    if !header.starts_with(b"ARL") {
+        return Err(Refusal::FileMark);
+    }
+    if !header.ends_with(&[0, 1]) {
+        return Err(Refusal::FileVersion);
+    }
+    records.chunks(RECORD).map(record).collect()
+}
+
+fn record(octets: &[u8]) -> Result<Record, Refusal> {
+    let [s0, s1, s2, s3, n0, n1, mark, flag, t0, t1, t2, t3] =
+        octets.try_into().map_err(|_| Refusal::RecordCutShort)?;
+    let time = match (flag, u32::from_be_bytes([t0, t1, t2, t3])) {
+        (0, 0) => None,
+        (1, time) => Some(time),
+        _ => return Err(Refusal::Record),
+    };
+    if mark > 3 {
+        return Err(Refusal::Record);
+    }
+    let ssrc = u32::from_be_bytes([s0, s1, s2, s3]);
+    Ok(Record { ssrc, number: u16::from_be_bytes([n0, n1]), received: Received { mark, time } })
+}
+
+#[cfg(test)]
+mod tests {
+    use super::*;
+
+    fn refusal(records_octets: &[u8]) -> Option<u8> {
+        let file = [b"ARL\0\x01", records_octets].concat();
+        records(&file).err().map(Refusal::number)
+    }
+
+    #[test]
+    fn headers() {
+        assert_eq!(records(b"ARL\0"), Err(Refusal::FileMark));
+        assert_eq!(records(b"ARl\0\x01"), Err(Refusal::FileMark));
+        assert_eq!(records(b"ARL\x01\x01"), Err(Refusal::FileVersion));
+        assert_eq!(records(b"ARL\0\x01"), Ok(vec![]));
+    }
+
+    #[test]
+    fn faults_come_record_by_record() {
+        let good = [0, 0, 0, 1, 0, 2, 3, 1, 0, 0, 0, 0];
+        let bad_mark = [0, 0, 0, 1, 0, 2, 4, 1, 0, 0, 0, 0];
+        let bad_flag = [0, 0, 0, 1, 0, 2, 3, 2, 0, 0, 0, 0];
+        let time_yet_unknown = [0, 0, 0, 1, 0, 2, 3, 0, 0, 0, 0, 1];
+        assert_eq!(refusal(&good), None);
+        for bad in [bad_mark, bad_flag, time_yet_unknown] {
+            assert_eq!(refusal(&[good, bad].concat()), Some(14));
+            assert_eq!(refusal(&bad[..11]), Some(13));
+            assert_eq!(refusal(&[&bad[..], &good[..3]].concat()), Some(14));
+        }
+    }
+}

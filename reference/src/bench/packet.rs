@@ -1,0 +1,100 @@
+//! Reading and rewriting, a metric each.
+
+use super::{row, Row};
+use crate::baseline::packet::BASELINE;
+use crate::calls::packet::PacketCalls;
+use crate::packet::{Block, Packet};
+use crate::rng::Rng;
+use std::hint::black_box;
+
+/// How often a run goes over its packet.
+const TIMES: usize = 100;
+
+/// How many blocks, and how many metrics in each.
+const SHAPES: [(u32, u16); 3] = [(1, 590), (11, 50), (16, 36)];
+
+pub fn rows() -> Vec<Row> {
+    SHAPES.into_iter().flat_map(shape_rows).collect()
+}
+
+fn shape_rows((blocks, count): (u32, u16)) -> [Row; 3] {
+    let mut rng = Rng::of_case(8888, u64::from(blocks));
+    let steps = TIMES * blocks as usize * usize::from(count);
+    let shape = format!("{blocks} of {count}");
+    let blocks = (0..blocks)
+        .map(|ssrc| Block {
+            ssrc,
+            begin: rng.u16(),
+            metrics: (0..count).map(|_| rng.u16() | rng.pick(&[0, 0x8000])).collect(),
+        })
+        .collect();
+    let packet = Packet { sender: 1, rts: 2, blocks }.octets();
+    let calls = (PacketCalls::product(), BASELINE);
+    let fresh = |_| vec![0; packet.len()];
+    let timed = |name: &str, work: fn(PacketCalls, &[u8], &mut [u8]) -> u64| {
+        row(&format!("{name} {shape}"), calls, steps, fresh, |calls, out| {
+            for _ in 0..TIMES {
+                black_box(work(calls, &packet, out));
+            }
+        })
+    };
+    [
+        timed("read in one pass,", in_one_pass),
+        timed("read by ccfb_metric,", by_metric),
+        timed("rewrite", rewrite),
+    ]
+}
+
+/// Each block by the cursor, each metric from the part that it hands out.
+fn in_one_pass(calls: PacketCalls, packet: &[u8], _: &mut [u8]) -> u64 {
+    let (octets, len) = (packet.as_ptr(), packet.len());
+    let mut at = 0;
+    let mut sum = 0;
+    // SAFETY: each slice stands with its length; all other pointers are to locals of their type.
+    unsafe {
+        (calls.first_block)(octets, len, &mut at);
+        loop {
+            let (mut ssrc, mut begin, mut count, mut metrics) = (0, 0, 0, 0);
+            let (s, b, c) = (&mut ssrc, &mut begin, &mut count);
+            if (calls.next_block)(octets, len, &mut at, s, b, c, &mut metrics) != 0 {
+                return sum;
+            }
+            let part = &packet[metrics..metrics + 2 * usize::from(count)];
+            for j in 0..usize::from(count) {
+                let (mut kind, mut mark, mut offset) = (0, 0, 0);
+                let (k, m, o) = (&mut kind, &mut mark, &mut offset);
+                (calls.metric_at)(part.as_ptr(), part.len(), j, k, m, o);
+                sum += u64::from(kind) + u64::from(mark) + u64::from(offset);
+            }
+        }
+    }
+}
+
+/// Each metric by a question of its own.
+fn by_metric(calls: PacketCalls, packet: &[u8], _: &mut [u8]) -> u64 {
+    let (octets, len) = (packet.as_ptr(), packet.len());
+    let (mut k, mut j) = (0, 0);
+    let mut sum = 0;
+    loop {
+        let (mut number, mut kind, mut mark, mut offset) = (0, 0, 0, 0);
+        // SAFETY: as above.
+        let refusal = unsafe {
+            let kind = &mut kind;
+            (calls.metric)(octets, len, k, j, &mut number, kind, &mut mark, &mut offset)
+        };
+        match refusal {
+            0 => j += 1,
+            30 => (k, j) = (k + 1, 0),
+            _ => return sum,
+        }
+        sum += u64::from(kind) + u64::from(mark) + u64::from(offset) + u64::from(number);
+    }
+}
+
+fn rewrite(calls: PacketCalls, packet: &[u8], out: &mut [u8]) -> u64 {
+    let mut written = 0;
+    let (output, room) = (out.as_mut_ptr(), out.len());
+    // SAFETY: each slice stands with its length.
+    unsafe { (calls.rewrite)(packet.as_ptr(), packet.len(), output, room, &mut written) };
+    written as u64
+}

@@ -1,0 +1,56 @@
+//! Arrivals, one each.
+
+use super::{row, Row};
+use crate::baseline::store::BASELINE;
+use crate::calls::store::{StoreCalls, Words};
+
+const ARRIVALS: usize = 65_536;
+
+/// An SSRC and a number.
+type Arrival = (u32, u16);
+
+pub fn rows() -> Vec<Row> {
+    let one_stream = |number: fn(usize) -> usize| -> Vec<Arrival> {
+        (0..ARRIVALS).map(|i| (0x1234_5678, number(i) as u16)).collect()
+    };
+    let in_order = one_stream(|i| i);
+    let in_turn: Vec<Arrival> = (0..ARRIVALS).map(|i| (i as u32 % 16, (i / 16) as u16)).collect();
+    vec![
+        arrivals("arrival in order, 1 stream", 1, 0, &in_order),
+        arrivals("the same, a million came before", 1, 1_000_000 / ARRIVALS, &in_order),
+        arrivals("arrival in order, 16 streams in turn", 16, 0, &in_turn),
+        arrivals("one copy in ten", 1, 0, &one_stream(|i| i - i / 10)),
+        arrivals("loss of 64 in every thousand", 1, 0, &one_stream(|i| i + i / 936 * 64)),
+        arrivals("a jump of 2,048 each", 1, 0, &one_stream(|i| 2_048 * i)),
+    ]
+}
+
+/// Takes `arrivals` in `rounds_before` times unmeasured, and once more measured.
+fn arrivals(name: &str, places: usize, rounds_before: usize, arrivals: &[Arrival]) -> Row {
+    let prepare = |calls| {
+        let mut words = Words::fresh(places);
+        for _ in 0..rounds_before {
+            take(calls, &mut words, arrivals);
+        }
+        words
+    };
+    row(name, (StoreCalls::product(), BASELINE), arrivals.len(), prepare, |calls, words| {
+        take(calls, words, arrivals);
+    })
+}
+
+fn take(calls: StoreCalls, words: &mut Words, arrivals: &[Arrival]) {
+    let Words { places, cells } = words;
+    let (places, places_len) = (places.as_mut_ptr(), places.len());
+    let (cells, cells_len) = (cells.as_mut_ptr(), cells.len());
+    let mut time = 0u32;
+    for &(ssrc, number) in arrivals {
+        time = time.wrapping_add(65);
+        let mark = number as u8 % 4;
+        // SAFETY: each pointer stands with the length of its slice.
+        let refusal = unsafe {
+            (calls.arrive)(places, places_len, cells, cells_len, ssrc, number, mark, true, time)
+        };
+        assert_eq!(refusal, 0);
+    }
+}

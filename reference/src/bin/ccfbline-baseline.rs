@@ -1,0 +1,5 @@
+//! The baseline's `ccfbline`.
+
+fn main() -> std::io::Result<()> {
+    reference::baseline::ccfbline::run()
+}

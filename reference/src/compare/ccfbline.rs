@@ -1,0 +1,123 @@
+//! The program `ccfbline`: what it prints, octet by octet, for files of every kind.
+
+use super::{Hex, Mismatch, Tally};
+use crate::arrival_file::RECORD;
+use crate::ccfbline;
+use crate::program;
+use crate::rng::{rounds, Rng};
+use std::path::Path;
+
+const HEADER: [u8; 5] = *b"ARL\0\x01";
+
+/// Case P.
+const CASE_P: [u8; 29] = *b"ARL\0\x01\
+    \x00\x00\x0a\x01\xff\xfe\x02\x01\x00\x04\x80\x00\
+    \x00\x00\x0a\x01\x00\x00\x03\x01\x00\x05\x00\x00";
+
+pub fn run(program: &Path, tally: &mut Tally) -> Result<(), Mismatch> {
+    let case_p = "8bcd0006000000f100000a01fffd00040000c2000000e00000050000\n".to_string();
+    tally.same(&"case P", program::printed(program, &CASE_P), Ok(case_p))?;
+    near_case_p(program, tally)?;
+    for _ in 0..rounds(3_000) {
+        tally.case += 1;
+        let mut rng = Rng::of_case(tally.seed, tally.case);
+        let records = rng.below(60);
+        let mut file = random_file(&mut rng, records);
+        if rng.one_in(3) {
+            for _ in 0..1 + rng.below(3) {
+                put_fault(&mut rng, &mut file);
+            }
+        }
+        compare(program, tally, &file)?;
+    }
+    long_files(program, tally)
+}
+
+fn compare(program: &Path, tally: &mut Tally, file: &[u8]) -> Result<(), Mismatch> {
+    tally.same(&Hex(file), program::printed(program, file), Ok(ccfbline::printed(file)))
+}
+
+/// Case P cut at each octet, and with each octet damaged.
+fn near_case_p(program: &Path, tally: &mut Tally) -> Result<(), Mismatch> {
+    for length in 0..CASE_P.len() {
+        compare(program, tally, &CASE_P[..length])?;
+    }
+    for at in 0..CASE_P.len() {
+        for flip in [1, 2, 4, 0x20, 0x80, 0xFF] {
+            let mut file = CASE_P;
+            file[at] ^= flip;
+            compare(program, tally, &file)?;
+            compare(program, tally, &file[..file.len() - 1])?;
+        }
+    }
+    Ok(())
+}
+
+/// A file without faults: one to nine streams that wrap, jump, repeat and come late.
+fn random_file(rng: &mut Rng, records: u64) -> Vec<u8> {
+    let mut newest: Vec<(u32, u16)> =
+        (0..1 + rng.below(9)).map(|i| (rng.u32() ^ i as u32, rng.u16())).collect();
+    if rng.one_in(2) {
+        newest[0].1 = 65_530;
+    }
+    let no_time = rng.one_in(8);
+    let mut time = rng.u32();
+    let mut file = HEADER.to_vec();
+    for _ in 0..records {
+        let stream = rng.below(newest.len() as u64) as usize;
+        let (ssrc, number) = &mut newest[stream];
+        time = time.wrapping_add(rng.below(100_000) as u32);
+        let step = match rng.below(16) {
+            0 => 2_048,
+            1 => 32_767,
+            2 => 32_768,
+            3 => 65_536 - rng.below(2_100),
+            4 => 65_536 - 2_048,
+            5..=7 => 65_536 - rng.below(4),
+            8 => rng.below(65_536),
+            _ => 1,
+        };
+        let next = number.wrapping_add(step as u16);
+        if step < 32_768 {
+            *number = next;
+        }
+        let known = !no_time && !rng.one_in(6);
+        file.extend(ssrc.to_be_bytes());
+        file.extend(next.to_be_bytes());
+        file.extend([rng.below(4) as u8, u8::from(known)]);
+        file.extend(if known { time } else { 0 }.to_be_bytes());
+    }
+    file
+}
+
+fn put_fault(rng: &mut Rng, file: &mut Vec<u8>) {
+    let records = file.len().saturating_sub(HEADER.len()) / RECORD;
+    let record = HEADER.len() + RECORD * rng.below(records.max(1) as u64) as usize;
+    match rng.below(8) {
+        0 => file.truncate(rng.below(file.len() as u64 + 1) as usize),
+        1 => file.extend(std::iter::repeat_n(rng.u16() as u8, 1 + rng.below(11) as usize)),
+        2 if file.len() >= HEADER.len() => file[rng.below(5) as usize] ^= 1 << rng.below(8),
+        _ if record + RECORD > file.len() => {}
+        2 | 3 => file[record + 6] = 4 + rng.below(252) as u8,
+        4 => file[record + 7] = 2 + rng.below(254) as u8,
+        5 => file[record + 7] = 0,
+        6 => file[record + 8 + rng.below(4) as usize] ^= 1 << rng.below(8),
+        _ => file[record + 6 + rng.below(2) as usize] ^= 1 << rng.below(8),
+    }
+}
+
+/// Files longer than any buffer, one of a million records, whole and with a fault at the end.
+fn long_files(program: &Path, tally: &mut Tally) -> Result<(), Mismatch> {
+    let mut rng = Rng::of_case(tally.seed, 0);
+    for records in [341, 342, 5_461, 5_462, 20_000, 1_000_000] {
+        let mut file = random_file(&mut rng, records);
+        compare(program, tally, &file)?;
+        file.pop();
+        compare(program, tally, &file)?;
+        let mark = file.len() + 7 - RECORD;
+        file[mark] = 4;
+        file.push(0);
+        compare(program, tally, &file)?;
+    }
+    Ok(())
+}

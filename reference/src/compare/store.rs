@@ -1,0 +1,147 @@
+//! Store: the cases at the edges, random runs from a fresh store, lent contents, wrong shapes.
+
+use super::lent_words::random_words;
+use super::pair::{Call, Pair};
+use super::{Mismatch, Tally};
+use crate::calls::store::{StoreCalls, Words};
+use crate::metric::Received;
+use crate::rng::{rounds, Rng};
+use crate::store::wrapped;
+
+pub fn run(calls: &StoreCalls, tally: &mut Tally) -> Result<(), Mismatch> {
+    edges(calls, tally)?;
+    wrong_shapes(calls, tally)?;
+    for places in [1, 2, 4, 16] {
+        for _ in 0..rounds(20) {
+            tally.case += 1;
+            random_run(calls, tally, places, 5_000)?;
+        }
+    }
+    for _ in 0..rounds(150) {
+        tally.case += 1;
+        lent_run(calls, tally)?;
+    }
+    Ok(())
+}
+
+fn arrival(ssrc: u32, number: u16, mark: u8, time: Option<u32>) -> Call {
+    Call::Arrive { ssrc, number, received: Received { mark, time }, idle: 0 }
+}
+
+/// Numbers around H = 0, and copies, one store for each case.
+fn edges(calls: &StoreCalls, tally: &mut Tally) -> Result<(), Mismatch> {
+    let around = [65_535, 63_489, 63_488, 32_767, 32_768, 0, 1, 2_047, 2_048, 2_049];
+    let mut runs: Vec<Vec<Call>> =
+        around.map(|number| vec![arrival(7, 0, 0, None), arrival(7, number, 1, None)]).to_vec();
+    let copies = |copies: &[(u8, Option<u32>)]| {
+        copies.iter().map(|(mark, time)| arrival(7, 9, *mark, *time)).collect()
+    };
+    runs.push(copies(&[(2, None), (1, Some(5))]));
+    runs.push(copies(&[(2, Some(5)), (3, Some(4)), (1, None)]));
+    for run in runs {
+        let mut pair = Pair::fresh(calls, 1);
+        for call in run {
+            pair.call_closely(tally, call)?;
+        }
+    }
+    Ok(())
+}
+
+/// Every wrong shape gets 4 from every call, before any other refusal, and no word changes.
+fn wrong_shapes(calls: &StoreCalls, tally: &mut Tally) -> Result<(), Mismatch> {
+    let mut rng = Rng::of_case(tally.seed, 0);
+    for places in 0..=20usize {
+        let right = 2_048 * places;
+        let lengths = [0, 1, 2_048, right, right + 1, right + 2_048, right.saturating_sub(1)];
+        for cells in lengths.into_iter().chain([right.saturating_sub(2_048), places]) {
+            if cells == right && (1..=16).contains(&places) {
+                continue;
+            }
+            let mut words = random_words(&mut rng, places);
+            words.cells.resize_with(cells, || rng.u64());
+            wrong_shape(calls, tally, words)?;
+        }
+    }
+    Ok(())
+}
+
+fn wrong_shape(calls: &StoreCalls, tally: &mut Tally, words: Words) -> Result<(), Mismatch> {
+    let shape = (words.places.len(), words.cells.len());
+    let mut ours = words.clone();
+    for mark in [0, 4] {
+        let answer = calls.arrive(&mut ours, 1, 1, Received { mark, time: None }, 0);
+        tally.same(&("arrive", shape, mark), answer, Err(4))?;
+    }
+    tally.same(&("forget", shape), calls.forget(&mut ours, 1), Err(4))?;
+    for place in [0, shape.0, usize::MAX] {
+        tally.same(&("place", shape, place), calls.place(&ours, place), Err(4))?;
+    }
+    tally.same(&("words unchanged", shape), ours == words, true)
+}
+
+/// Distances from H that matter, forwards and backwards.
+const JUMPS: [i64; 10] = [0, 1, 2, 2_047, 2_048, 2_049, 32_767, 32_768, 4_096, 30_000];
+
+fn next_number(rng: &mut Rng, highest: i64) -> u16 {
+    let step = match rng.below(16) {
+        0..=5 => 1,
+        6 | 7 => -(rng.below(8) as i64),
+        8 => -(rng.below(2_100) as i64),
+        9 | 10 => rng.below(100) as i64,
+        11 => rng.below(65_536) as i64,
+        12 | 13 => -rng.pick(&JUMPS),
+        _ => rng.pick(&JUMPS),
+    };
+    wrapped(highest + step)
+}
+
+fn next_call(rng: &mut Rng, pair: &Pair, streams: &[u32]) -> Call {
+    let ssrc = rng.pick(streams);
+    if rng.one_in(100) {
+        return Call::Forget { ssrc };
+    }
+    let number = match pair.model.stream(ssrc) {
+        Some(stream) => next_number(rng, stream.highest),
+        None => rng.u16(),
+    };
+    let mark = if rng.one_in(50) { 4 + rng.below(252) } else { rng.below(4) } as u8;
+    let time = if rng.one_in(8) { None } else { Some(rng.u32()) };
+    Call::Arrive { ssrc, number, received: Received { mark, time }, idle: rng.u32() }
+}
+
+fn random_run(
+    calls: &StoreCalls,
+    tally: &mut Tally,
+    places: usize,
+    length: u32,
+) -> Result<(), Mismatch> {
+    let mut rng = Rng::of_case(tally.seed, tally.case);
+    let mut streams = vec![0, u32::MAX];
+    streams.extend((0..places).map(|_| rng.u32()));
+    let mut pair = Pair::fresh(calls, places);
+    for _ in 0..length {
+        let call = next_call(&mut rng, &pair, &streams);
+        if rng.one_in(200) {
+            pair.call_closely(tally, call)?;
+        } else {
+            pair.call(tally, call)?;
+        }
+    }
+    Ok(())
+}
+
+/// A few calls on a lent store of random content.
+fn lent_run(calls: &StoreCalls, tally: &mut Tally) -> Result<(), Mismatch> {
+    let mut rng = Rng::of_case(tally.seed, tally.case);
+    let places = 1 + rng.below(16) as usize;
+    let mut pair = Pair::lent(calls, random_words(&mut rng, places));
+    let mut streams: Vec<u32> =
+        pair.model.places().iter().flatten().map(|held| held.ssrc).collect();
+    streams.extend([0, rng.u32()]);
+    for _ in 0..12 {
+        let call = next_call(&mut rng, &pair, &streams);
+        let call = if rng.one_in(8) { Call::Forget { ssrc: rng.pick(&streams) } } else { call };
+        pair.call_closely(tally, call)?;
+    }
+    Ok(())
+}
