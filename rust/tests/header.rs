@@ -1,0 +1,31 @@
+//! The refusals stand in the C header under the same names and numbers.
+
+use ccfb::Refusal;
+
+/// The refusals of arrival files, which no call of the library gives.
+const OF_THE_PROGRAM: std::ops::RangeInclusive<u8> = 11..=14;
+
+/// `BadMark` as C names it: `CCFB_BAD_MARK`.
+fn macro_name(refusal: Refusal) -> String {
+    let mut name = String::from("CCFB");
+    for letter in format!("{refusal:?}").chars() {
+        if letter.is_uppercase() {
+            name.push('_');
+        }
+        name.extend(letter.to_uppercase());
+    }
+    name
+}
+
+#[test]
+fn names_and_numbers() {
+    let header = include_str!("../../include/ccfb.h");
+    let of_calls =
+        Refusal::ALL.iter().filter(|refusal| !OF_THE_PROGRAM.contains(&refusal.number()));
+    let defined: Vec<String> = of_calls
+        .map(|refusal| format!("#define {} {}", macro_name(*refusal), refusal.number()))
+        .collect();
+    let (_, refusals) = header.split_once("/* Refusals. */\n").expect("the list of refusals");
+    let (refusals, _) = refusals.split_once("\n\n").expect("its end");
+    assert_eq!(refusals.lines().collect::<Vec<_>>(), defined);
+}

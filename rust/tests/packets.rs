@@ -1,0 +1,50 @@
+//! How the writer's packets come out.
+
+mod common;
+
+use ccfb::{Packet, Refusal, Report, Request, Store};
+use common::store_with;
+
+fn requests(store: &Store<2>, counts: [u16; 2]) -> Vec<Request> {
+    store.streams().zip(counts).map(|(stream, count)| stream.newest(count)).collect()
+}
+
+#[test]
+fn sizes_for_ranges_of_five_and_three() -> Result<(), Refusal> {
+    let cases: [(usize, &[usize]); 3] = [(32, &[32, 28]), (44, &[44, 24]), (48, &[48])];
+    let store = store_with(3);
+    let requests = requests(&store, [5, 3]);
+    for (limit, sizes) in cases {
+        let mut out = [0; 68];
+        let packets = store.write(Report { own: 1, rts: 2, limit }, &requests, &mut out)?;
+        assert_eq!(packets.len(), sizes.len());
+        assert_eq!(packets.map(<[u8]>::len).collect::<Vec<_>>(), sizes);
+    }
+    Ok(())
+}
+
+#[test]
+fn no_request_gives_no_packet() -> Result<(), Refusal> {
+    let packets = store_with(3).write(Report { own: 1, rts: 2, limit: 24 }, &[], &mut [])?;
+    assert_eq!(packets.count(), 0);
+    Ok(())
+}
+
+#[test]
+fn twelve_octets_a_number_and_twenty_a_request_are_room_enough() -> Result<(), Refusal> {
+    let store = store_with(3);
+    for limit in 24..64 {
+        for counts in (0..12).flat_map(|first| (0..12).map(move |second| [first, second])) {
+            let requests = requests(&store, counts);
+            let asked: u16 = counts.iter().sum();
+            let mut out = vec![0; 12 * usize::from(asked) + 20 * requests.len()];
+            let packets = store.write(Report { own: 1, rts: 2, limit }, &requests, &mut out)?;
+            let mut told = 0;
+            for octets in packets {
+                told += Packet::read(octets)?.blocks().map(|block| block.count()).sum::<u16>();
+            }
+            assert_eq!(told, asked);
+        }
+    }
+    Ok(())
+}

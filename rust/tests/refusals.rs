@@ -1,0 +1,93 @@
+//! Every refusal that a call of the crate can give, and their order.
+
+mod common;
+
+use ccfb::{rewrite, Mark, Packet, Refusal, Report, Request, Time};
+use common::store_with;
+
+/// A packet of one block of four numbers.
+const PACKET: [u8; 28] = *b"\x8b\xcd\x00\x06\x00\x00\x00\xf1\x00\x00\x0a\x01\x00\x09\x00\x04\
+    \x80\x00\x80\x00\x80\x00\x80\x00\x00\x05\x00\x00";
+
+/// The packet with those octets in the place of its own.
+fn with(octets: &[(usize, u8)]) -> [u8; 28] {
+    let mut packet = PACKET;
+    for &(at, octet) in octets {
+        packet[at] = octet;
+    }
+    packet
+}
+
+fn written(limit: usize, requests: &[Request], room: usize) -> Result<usize, Refusal> {
+    let mut out = vec![0xee; room];
+    let report = Report { own: 1, rts: 2, limit };
+    let octets =
+        store_with(5_000).write(report, requests, &mut out).map(|packets| packets.octets().len());
+    assert!(octets.is_ok() || out.iter().all(|octet| *octet == 0xee));
+    octets
+}
+
+#[test]
+fn by_the_store() {
+    let mut store = store_with(5_000);
+    let mut arrive = |ssrc, number| store.arrive(ssrc, number, Mark::Ce, Time::Unknown);
+    assert_eq!(arrive(8, 5_000), Err(Refusal::NoFreePlace));
+    assert_eq!(arrive(7, 2_952), Err(Refusal::TooOld));
+    assert_eq!(arrive(7, 2_953), Ok(()));
+    assert_eq!(arrive(7, 37_768), Err(Refusal::TooOld));
+    assert_eq!(arrive(7, 37_767), Ok(()));
+    assert_eq!(store.forget(8), Err(Refusal::NotHeld));
+    assert_eq!(store.place(2), Err(Refusal::NotHeld));
+    assert_eq!(store.forget(7), Ok(()));
+    assert_eq!(store.place(0), Err(Refusal::NotHeld));
+    assert_eq!(Mark::try_from(4), Err(Refusal::BadMark));
+}
+
+#[test]
+fn by_the_writer() {
+    let of_7 = |begin, count| Request { ssrc: 7, begin, count };
+    let unknown = Request { ssrc: 8, begin: 0, count: 0 };
+    assert_eq!(written(23, &[unknown; 17], 0), Err(Refusal::BadLimit));
+    assert_eq!(written(9_001, &[], 0), Err(Refusal::BadLimit));
+    assert_eq!(written(24, &[unknown; 17], 0), Err(Refusal::TooManyRequests));
+    assert_eq!(written(24, &[of_7(5_000, 1), unknown], 0), Err(Refusal::NotHeld));
+    assert_eq!(written(24, &[of_7(5_000, 1), of_7(0, 1)], 0), Err(Refusal::StreamRepeated));
+    for range in [(5_000, 2), (5_001, 1), (2_952, 1), (4_999, 0)] {
+        assert_eq!(written(24, &[of_7(range.0, range.1)], 0), Err(Refusal::BadRange));
+    }
+    assert_eq!(written(24, &[of_7(5_000, 1)], 23), Err(Refusal::OutputTooShort));
+    assert_eq!(written(24, &[of_7(5_000, 1)], 24), Ok(24));
+}
+
+#[test]
+fn by_the_reader_and_the_rewriter() {
+    let cases: [(&[u8], Refusal); 12] = [
+        (&[], Refusal::PacketTooShort),
+        (&PACKET[..11], Refusal::PacketTooShort),
+        (&with(&[(0, 0x4b), (1, 0)]), Refusal::BadVersion),
+        (&with(&[(0, 0x8a), (3, 0)]), Refusal::BadType),
+        (&with(&[(1, 206)]), Refusal::BadType),
+        (&with(&[(3, 7), (0, 0xab)]), Refusal::BadLength),
+        (&with(&[(0, 0xab), (15, 5)]), Refusal::Padded),
+        (&with(&[(15, 5)]), Refusal::RunsIntoRts),
+        // Its metrics are then read as a second block.
+        (&with(&[(15, 0)]), Refusal::TooManyReports),
+        (&with(&[(14, 0x40), (15, 0)]), Refusal::RunsIntoRts),
+        (&with(&[(14, 0x40), (15, 1)]), Refusal::TooManyReports),
+        (&with(&[(15, 3)]), Refusal::FillerNotZero),
+    ];
+    for (octets, refusal) in cases {
+        assert_eq!(Packet::read(octets), Err(refusal));
+        assert_eq!(rewrite(octets, &mut []), Err(refusal));
+    }
+    assert_eq!(rewrite(&PACKET, &mut [0; 27]), Err(Refusal::OutputTooShort));
+}
+
+#[test]
+fn by_the_questions() {
+    let packet = Packet::read(&PACKET).expect("a packet");
+    assert_eq!(packet.block(1), Err(Refusal::NoBlock));
+    assert_eq!(packet.metric(1, 0), Err(Refusal::NoBlock));
+    assert_eq!(packet.metric(0, 4), Err(Refusal::NoNumber));
+    assert_eq!(packet.block(0).and_then(|block| block.metric(4)), Err(Refusal::NoNumber));
+}
