@@ -1,6 +1,6 @@
 /*
- * A receiver's whole round. Three cameras send; the receiver records what arrives and writes feedback; each camera
- * reads what the feedback says of its own packets.
+ * A receiver's whole round. Three cameras send; the receiver records what arrives and writes
+ * feedback; each camera reads what the feedback says of its own packets.
  */
 #include "ccfb.h"
 
@@ -10,8 +10,8 @@
 enum {
     PLACES = 4,
     NEWEST = 4, /* numbers reported of each camera */
-    LIMIT = 40, /* octets of a packet: so few that camera 2's range runs over two packets */
-    ROOM = 256
+    LIMIT = 40, /* octets of a packet: so few that camera 2's numbers take two packets */
+    ROOM = 256  /* octets of the output */
 };
 
 /* A frame takes 1/16 s. */
@@ -44,7 +44,7 @@ static const struct arrival arrivals[] = {
     {CAMERA_3, 502, CCFB_ECT_0, true, FRAME(199)},
     {CAMERA_2, 1, CCFB_ECT_0, true, FRAME(200)}, /* 0 is lost */
     {CAMERA_3, 503, CCFB_ECT_0, true, FRAME(200)},
-    {CAMERA_2, 60000, CCFB_ECT_0, true, FRAME(200)}, /* of long ago: refused */
+    {CAMERA_2, 60000, CCFB_ECT_0, true, FRAME(200)}, /* too old: refused */
 };
 
 static uint64_t places[PLACES]; /* zeroed: a fresh store */
@@ -52,10 +52,11 @@ static uint64_t cells[CCFB_CELLS(PLACES)];
 
 static void record(const struct arrival *a)
 {
-    uint8_t refused = ccfb_arrive(places, PLACES, cells, CCFB_CELLS(PLACES), a->ssrc, a->number, a->mark,
-                                  a->time_known, a->time);
+    uint8_t refused = ccfb_arrive(places, PLACES, cells, CCFB_CELLS(PLACES), a->ssrc, a->number,
+                                  a->mark, a->time_known, a->time);
     if (refused != 0)
-        printf("receiver: stream %08x, number %u refused (%u)\n", (unsigned)a->ssrc, a->number, refused);
+        printf("receiver: stream %08x, number %u refused (%u)\n", (unsigned)a->ssrc, a->number,
+               refused);
 }
 
 /* Asks for the newest numbers of each stream that is held. */
@@ -75,7 +76,7 @@ static size_t requests_for_all(struct ccfb_request *requests)
     return n;
 }
 
-/* The octets of a written packet, by its length field. */
+/* How many octets a written packet has, by its length field. */
 static size_t octets_of(const uint8_t *packet)
 {
     return 4 * ((size_t)packet[2] * 256 + packet[3] + 1);
@@ -107,26 +108,26 @@ static void print_metric(uint16_t number, uint8_t kind, uint8_t mark, uint16_t o
     }
 }
 
-/* The camera's side: the walk over the blocks of a packet, and over the metrics of the camera's own block. */
-static void camera_reads(uint32_t own, const uint8_t *packet, size_t len)
+/* The camera's side: a walk over the blocks of a packet, and over the metrics of its own block. */
+static void camera_reads(uint32_t camera, const uint8_t *packet, size_t len)
 {
     uint32_t sender, rts, ssrc;
     uint16_t begin, count;
-    size_t blocks, at, metrics;
+    size_t blocks, at, metrics_at;
     uint8_t refused = ccfb_read(packet, len, &sender, &rts, &blocks);
     if (refused != 0) {
-        printf("camera %08x: packet refused (%u)\n", (unsigned)own, refused);
+        printf("camera %08x: packet refused (%u)\n", (unsigned)camera, refused);
         return;
     }
     ccfb_first_block(packet, len, &at);
-    while (ccfb_next_block(packet, len, &at, &ssrc, &begin, &count, &metrics) == 0) {
-        if (ssrc != own)
+    while (ccfb_next_block(packet, len, &at, &ssrc, &begin, &count, &metrics_at) == 0) {
+        if (ssrc != camera)
             continue;
-        printf("camera %08x: %u numbers from %u on\n", (unsigned)own, count, begin);
+        printf("camera %08x: %u numbers from %u on\n", (unsigned)camera, count, begin);
         for (size_t j = 0; j < count; j++) {
             uint8_t kind, mark = 0;
             uint16_t offset = 0;
-            ccfb_metric_at(packet + metrics, 2 * (size_t)count, j, &kind, &mark, &offset);
+            ccfb_metric_at(packet + metrics_at, 2 * (size_t)count, j, &kind, &mark, &offset);
             print_metric((uint16_t)(begin + j), kind, mark, offset);
         }
     }
@@ -143,8 +144,8 @@ int main(void)
         record(&arrivals[i]);
 
     size_t n = requests_for_all(requests);
-    uint8_t refused = ccfb_write(places, PLACES, cells, CCFB_CELLS(PLACES), RECEIVER, RTS, LIMIT, requests, n, out,
-                                 ROOM, &packets, &octets);
+    uint8_t refused = ccfb_write(places, PLACES, cells, CCFB_CELLS(PLACES), RECEIVER, RTS, LIMIT,
+                                 requests, n, out, ROOM, &packets, &octets);
     if (refused != 0) {
         printf("receiver: no feedback (%u)\n", refused);
         return EXIT_FAILURE;

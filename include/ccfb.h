@@ -1,9 +1,9 @@
 /*
  * Nadrwythol: RTCP Congestion Control Feedback (CCFB, RFC 8888).
  *
- * Each call answers 0, or the number of its refusal; a refused call changes nothing behind its pointers (but
- * ccfb_block_metrics then hands out an empty part).
- * docs/MANUAL.md tells what each call means.
+ * Every call returns 0 or the number of its refusal, but for ccfb_decode_metric, which refuses
+ * nothing. A refused call leaves the caller's memory unchanged; only ccfb_block_metrics then sets
+ * its two outputs to 0. docs/MANUAL.md says what each call does.
  */
 #ifndef CCFB_H
 #define CCFB_H
@@ -49,44 +49,47 @@ extern "C" {
 /* The metric of a sequence number that was not received. */
 #define CCFB_METRIC_NOT_RECEIVED 0x0000
 
-/* The cases of a metric. Only CCFB_RECEIVED has an offset. */
+/* The kinds of metric. Only CCFB_RECEIVED has an offset. */
 #define CCFB_NOT_RECEIVED 0
 #define CCFB_RECEIVED 1
 #define CCFB_OVER_RANGE 2
 #define CCFB_NO_TIME 3
 
 /*
- * The 16-bit metric of a sequence number that came with that ECN mark and time. Times and rts count 1/65536 s
- * (the middle 32 bits of an NTP timestamp); time is not looked at unless time_known. Refusal 1: mark above 3.
+ * The 16-bit metric of a sequence number that arrived with this ECN mark at this time. time and
+ * rts count 1/65536 s (the middle 32 bits of an NTP timestamp); time is ignored unless time_known.
+ * Refusal 1: mark above 3.
  */
-uint8_t ccfb_encode_metric(uint8_t mark, bool time_known, uint32_t time, uint32_t rts, uint16_t *metric);
+uint8_t ccfb_encode_metric(uint8_t mark, bool time_known, uint32_t time, uint32_t rts,
+                           uint16_t *metric);
 
 /*
- * The case of a metric. *mark is written unless it is CCFB_NOT_RECEIVED, and *offset, in 1/1024 s and at most 8189,
- * where it is CCFB_RECEIVED; else they stay as they were.
+ * Returns the kind of a metric. Writes *mark unless the kind is CCFB_NOT_RECEIVED, and *offset, in
+ * 1/1024 s and at most 8189, if it is CCFB_RECEIVED; otherwise they stay as they were.
  */
 uint8_t ccfb_decode_metric(uint16_t metric, uint8_t *mark, uint16_t *offset);
 
-/* ---- The store of arrivals: two arrays that the caller lends, zeroed at the start */
+/* ---- The store of arrivals: two arrays that the caller owns, zeroed at the start */
 
 #define CCFB_MOST_PLACES 16
 #define CCFB_CELLS_OF_A_PLACE 2048
 #define CCFB_CELLS(places) (CCFB_CELLS_OF_A_PLACE * (places))
 
-/* One arrival. Refusals in order: 4, 1, then 3 or 2. */
-uint8_t ccfb_arrive(uint64_t *places, size_t places_len, uint64_t *cells, size_t cells_len, uint32_t ssrc,
-                    uint16_t number, uint8_t mark, bool time_known, uint32_t time);
+/* Records one arrival. Refusals in order: 4, 1, then 3 or 2. */
+uint8_t ccfb_arrive(uint64_t *places, size_t places_len, uint64_t *cells, size_t cells_len,
+                    uint32_t ssrc, uint16_t number, uint8_t mark, bool time_known, uint32_t time);
 
 /* Forgets a stream and frees its place. Refusals: 4, 5. */
-uint8_t ccfb_forget(uint64_t *places, size_t places_len, const uint64_t *cells, size_t cells_len, uint32_t ssrc);
+uint8_t ccfb_forget(uint64_t *places, size_t places_len, const uint64_t *cells, size_t cells_len,
+                    uint32_t ssrc);
 
-/* Which stream place k, from 0, holds, and its highest sequence number. Refusals: 4, 5. */
-uint8_t ccfb_place(const uint64_t *places, size_t places_len, const uint64_t *cells, size_t cells_len, size_t k,
-                   uint32_t *ssrc, uint16_t *highest);
+/* The stream that place k, from 0, holds, and its highest sequence number. Refusals: 4, 5. */
+uint8_t ccfb_place(const uint64_t *places, size_t places_len, const uint64_t *cells,
+                   size_t cells_len, size_t k, uint32_t *ssrc, uint16_t *highest);
 
 /* ---- Writing feedback */
 
-/* A request: count sequence numbers of a stream from begin on. */
+/* A request: count sequence numbers of a stream, starting at begin. */
 struct ccfb_request {
     uint32_t ssrc;
     uint16_t begin;
@@ -94,48 +97,60 @@ struct ccfb_request {
 };
 
 /*
- * Writes feedback on at most 16 requests, from SSRC own at RTS rts, to the start of out: the fewest packets of at most
- * limit octets (24 to 9,000), one behind the other. *packets is how many, *octets their sum, and the octets of out past
- * it stay. Refusals in order: 4, 6, 7, then request by request 5, 8, 9, then 10.
+ * Writes feedback on at most 16 requests to the start of out: the fewest packets possible of at
+ * most limit octets each (24 to 9,000), back to back, with the SSRC sender and the RTS rts.
+ * *packets is how many there are and *octets their total length; the rest of out stays as it was.
+ * Refusals in order: 4, 6, 7, then request by request 5, 8, 9, then 10.
  */
-uint8_t ccfb_write(const uint64_t *places, size_t places_len, const uint64_t *cells, size_t cells_len, uint32_t own,
-                   uint32_t rts, size_t limit, const struct ccfb_request *requests, size_t requests_len, uint8_t *out,
+uint8_t ccfb_write(const uint64_t *places, size_t places_len, const uint64_t *cells,
+                   size_t cells_len, uint32_t sender, uint32_t rts, size_t limit,
+                   const struct ccfb_request *requests, size_t requests_len, uint8_t *out,
                    size_t out_len, size_t *packets, size_t *octets);
 
-/* ---- Reading a packet; any octets are an input */
+/* ---- Reading a packet; each call accepts any octets */
 
 /* The sender, RTS and the number of report blocks. Refusals: 21 to 28. */
-uint8_t ccfb_read(const uint8_t *packet, size_t len, uint32_t *sender, uint32_t *rts, size_t *blocks);
+uint8_t ccfb_read(const uint8_t *packet, size_t len, uint32_t *sender, uint32_t *rts,
+                  size_t *blocks);
 
 /* Block k, from 0: its SSRC, begin_seq and num_reports. Refusals: 21 to 29. */
-uint8_t ccfb_block(const uint8_t *packet, size_t len, size_t k, uint32_t *ssrc, uint16_t *begin, uint16_t *count);
+uint8_t ccfb_block(const uint8_t *packet, size_t len, size_t k, uint32_t *ssrc, uint16_t *begin,
+                   uint16_t *count);
 
 /*
- * The part of the packet that holds the metrics of block k, 2 octets a number: where it starts, and its octets.
- * Refusals: 21 to 29; the part is then empty, at 0.
+ * The part of the packet that holds the metrics of block k, 2 octets for each number: the octet
+ * where it starts and its length in octets. Refusals: 21 to 29; both are then 0.
  */
-uint8_t ccfb_block_metrics(const uint8_t *packet, size_t len, size_t k, size_t *offset, size_t *length);
-
-/* Metric j of block k, both from 0: its sequence number, its case, and what the case has. Refusals: 21 to 30. */
-uint8_t ccfb_metric(const uint8_t *packet, size_t len, size_t k, size_t j, uint16_t *number, uint8_t *kind,
-                    uint8_t *mark, uint16_t *offset);
+uint8_t ccfb_block_metrics(const uint8_t *packet, size_t len, size_t k, size_t *metrics_at,
+                           size_t *metrics_length);
 
 /*
- * All blocks in one pass: ccfb_first_block sets *at (refusals 21 to 25), and each ccfb_next_block reads the block there
- * and moves *at behind it, with *metrics the offset of its metrics. Refusals: 26 to 28, and 29 where the blocks end.
+ * Metric j of block k, both from 0: its sequence number, its kind, and what ccfb_decode_metric
+ * writes for that kind. Refusals: 21 to 30.
+ */
+uint8_t ccfb_metric(const uint8_t *packet, size_t len, size_t k, size_t j, uint16_t *number,
+                    uint8_t *kind, uint8_t *mark, uint16_t *offset);
+
+/*
+ * All blocks in one pass: ccfb_first_block sets *at (refusals 21 to 25), and each ccfb_next_block
+ * reads the block there and moves *at past it; *metrics_at is the octet where its metrics start.
+ * Refusals: 26 to 28, and 29 after the last block.
  */
 uint8_t ccfb_first_block(const uint8_t *packet, size_t len, size_t *at);
-uint8_t ccfb_next_block(const uint8_t *packet, size_t len, size_t *at, uint32_t *ssrc, uint16_t *begin,
-                        uint16_t *count, size_t *metrics);
+uint8_t ccfb_next_block(const uint8_t *packet, size_t len, size_t *at, uint32_t *ssrc,
+                        uint16_t *begin, uint16_t *count, size_t *metrics_at);
 
-/* Metric j, from 0, of a part that holds metrics, in one step. Refusal: 30. */
-uint8_t ccfb_metric_at(const uint8_t *part, size_t len, size_t j, uint8_t *kind, uint8_t *mark, uint16_t *offset);
+/* Metric j, from 0, of a part that holds the metrics of a block, in one step. Refusal: 30. */
+uint8_t ccfb_metric_at(const uint8_t *part, size_t len, size_t j, uint8_t *kind, uint8_t *mark,
+                       uint16_t *offset);
 
 /*
- * Writes the packet to the start of out with each not-received metric 0x0000 and all else equal; *written is its
- * octets, and those past them stay. Refusals: 21 to 28, then 10.
+ * Writes the packet to the start of out with each not-received metric set to 0x0000 and the rest
+ * unchanged. *written is how many octets; the rest of out stays as it was.
+ * Refusals: 21 to 28, then 10.
  */
-uint8_t ccfb_rewrite(const uint8_t *packet, size_t len, uint8_t *out, size_t out_len, size_t *written);
+uint8_t ccfb_rewrite(const uint8_t *packet, size_t len, uint8_t *out, size_t out_len,
+                     size_t *written);
 
 #ifdef __cplusplus
 }

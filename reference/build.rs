@@ -1,5 +1,5 @@
-//! Links libccfb.a from the folder that CCFB_LIB_DIR names. Without it everything builds too,
-//! but `compare` and `bench` know the baseline alone.
+//! Links libccfb.a from the folder that CCFB_LIB_DIR names. Everything builds without it too, but
+//! then `compare` and `bench` have only the baseline.
 
 use std::env;
 use std::path::Path;

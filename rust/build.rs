@@ -7,10 +7,10 @@ use std::path::PathBuf;
 fn main() {
     println!("cargo:rerun-if-changed=build.rs");
     println!("cargo:rerun-if-env-changed=CCFB_LIB_DIR");
-    let own = PathBuf::from(env::var_os("CARGO_MANIFEST_DIR").expect("cargo sets it"));
+    let crate_folder = PathBuf::from(env::var_os("CARGO_MANIFEST_DIR").expect("cargo sets it"));
     let folder = match env::var_os("CCFB_LIB_DIR") {
         Some(folder) => PathBuf::from(folder),
-        None => own.join("../build/ccfb/lib"),
+        None => crate_folder.join("../build/ccfb/lib"),
     };
     let library = folder.join("libccfb.a");
     assert!(

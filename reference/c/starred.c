@@ -1,4 +1,4 @@
-/* The starred cases of the metric through the C header. */
+/* The starred cases of the metric, called through the C header. */
 
 #include "ccfb.h"
 
@@ -18,6 +18,9 @@ static void check(bool holds, const char *what, unsigned long value)
     }
 }
 
+/* The highest bit of a metric: received. */
+enum { R = 0x8000 };
+
 struct encode_case {
     uint32_t age;
     uint16_t offset;
@@ -34,21 +37,20 @@ static const struct encode_case encodes[] = {
     {0, 0},
     {63, 0},
     {64, 1},
-    {524096, 0x1FFD},
-    {524097, 0x1FFE},
+    {524096, 0x1FFD},     /* the longest age that has an offset */
+    {524097, 0x1FFE},     /* over range */
     {0x7FFFFFFF, 0x1FFE},
-    {0x80000000, 0x1FFF},
+    {0x80000000, 0x1FFF}, /* no time: it counts as after RTS */
 };
 
-/* Kinds: 0 not received, 1 received with an offset, 2 over range, 3 no time. A mark or an offset
-   that the kind does not have stays as it was before the call. */
+/* A mark or an offset that the kind does not have stays as it was before the call. */
 enum { MARK_BEFORE = 77, OFFSET_BEFORE = 7777 };
 
 static const struct decode_case decodes[] = {
-    {0x7FFF, 0, MARK_BEFORE, OFFSET_BEFORE},
-    {0xBFFD, 1, 1, 8189},
-    {0xFFFE, 2, 3, OFFSET_BEFORE},
-    {0xFFFF, 3, 3, OFFSET_BEFORE},
+    {0x7FFF, CCFB_NOT_RECEIVED, MARK_BEFORE, OFFSET_BEFORE},
+    {0xBFFD, CCFB_RECEIVED, CCFB_ECT_1, 8189},
+    {0xFFFE, CCFB_OVER_RANGE, CCFB_CE, OFFSET_BEFORE},
+    {0xFFFF, CCFB_NO_TIME, CCFB_CE, OFFSET_BEFORE},
 };
 
 int main(void)
@@ -56,8 +58,9 @@ int main(void)
     const uint32_t rts = 0x00050000;
     for (size_t i = 0; i < sizeof encodes / sizeof encodes[0]; i++) {
         uint16_t metric = 0;
-        uint8_t refusal = ccfb_encode_metric(0, true, rts - encodes[i].age, rts, &metric);
-        check(refusal == 0 && metric == (0x8000 | encodes[i].offset), "age", encodes[i].age);
+        uint32_t time = rts - encodes[i].age;
+        uint8_t refused = ccfb_encode_metric(CCFB_NOT_ECT, true, time, rts, &metric);
+        check(refused == 0 && metric == (R | encodes[i].offset), "age", encodes[i].age);
     }
     for (size_t i = 0; i < sizeof decodes / sizeof decodes[0]; i++) {
         uint8_t mark = MARK_BEFORE;

@@ -1,5 +1,5 @@
-//! Plain fast Rust on the product's layout and behind the same C boundary. It serves as the
-//! measure of speed; `compare --baseline` shows that it does the same.
+//! Plain fast Rust on the product's layout, behind the same C boundary: what the product's speed
+//! is measured against. `compare --baseline` shows that it does the same.
 
 pub mod ccfbline;
 pub mod metric;

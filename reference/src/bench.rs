@@ -10,6 +10,9 @@ use std::time::{Duration, Instant};
 
 const RUNS: u32 = 30;
 
+/// Random ages are below this: most have an offset, some are over range.
+const AGES: u64 = 600_000;
+
 /// A row of the table: nanoseconds for one step, ours `None` without libccfb.a.
 pub struct Row {
     pub name: String,
@@ -27,8 +30,8 @@ pub fn rows() -> Vec<Row> {
     rows
 }
 
-/// Best of the runs, ours and the baseline in turn so that both meet the same machine. A run does
-/// `steps` steps; `prepare` goes before it, untimed.
+/// Best of the runs, ours and the baseline in turn so that both meet the same load. A run does
+/// `steps` steps; `prepare` runs before it, untimed.
 fn row<C: Copy, S>(
     name: &str,
     (ours, baseline): (Option<C>, C),
@@ -37,7 +40,7 @@ fn row<C: Copy, S>(
     work: impl Fn(C, &mut S),
 ) -> Row {
     let mut timed = |calls: C| {
-        // The table passes through black_box, so that no call is known when this is compiled.
+        // The table passes through black_box, so that no call is known at compile time.
         let calls = std::hint::black_box(calls);
         let mut state = prepare(calls);
         let start = Instant::now();

@@ -5,14 +5,14 @@ pub mod packet;
 pub mod store;
 pub mod writer;
 
-/// What a wrapper answers for a call that refused and yet wrote an out-parameter.
+/// What a wrapper answers for a call that was refused and yet wrote an output.
 pub const TOUCHED: u8 = 255;
 
-/// `Ok(value)` for 0, else the refusal number; `before` is what the out-parameters held.
-fn answer<T: PartialEq>(code: u8, value: T, before: T) -> Result<T, u8> {
-    match code {
+/// `Ok(value)` for 0, else the number of the refusal; `before` is what the outputs held.
+fn answer<T: PartialEq>(refused: u8, value: T, before: T) -> Result<T, u8> {
+    match refused {
         0 => Ok(value),
         _ if value != before => Err(TOUCHED),
-        _ => Err(code),
+        _ => Err(refused),
     }
 }

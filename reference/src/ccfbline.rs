@@ -4,11 +4,14 @@ use crate::arrival_file::records;
 use crate::cutting::Request;
 use crate::refusal::Refusal;
 use crate::store::{wrapped, Store, Stream};
-use crate::writer::{write, Settings};
+use crate::writer::{write, Report};
 
-const OWN_SSRC: u32 = 0x0000_00F1;
+const SENDER: u32 = 0x0000_00F1;
 const LIMIT: usize = 1_200;
 const PLACES: usize = 4;
+
+/// How many numbers of each stream are reported.
+const NEWEST: u16 = 4;
 
 /// The lines, each with its newline.
 pub fn printed(file: &[u8]) -> String {
@@ -27,19 +30,20 @@ fn packets(file: &[u8]) -> Result<Vec<Vec<u8>>, Refusal> {
     let records = records(file)?;
     let mut store = Store::fresh(PLACES)?;
     for record in &records {
-        match store.arrive(record.ssrc, record.number, record.received) {
+        match store.arrive(record.ssrc, record.number, record.arrived) {
             Ok(_) | Err(Refusal::NoFreePlace | Refusal::TooOld) => {}
             Err(refusal) => return Err(refusal),
         }
     }
-    let last_known = records.iter().rev().find_map(|record| record.received.time);
-    let requests: Vec<Request> = store.places().iter().flatten().map(newest_four).collect();
-    let settings = Settings { own: OWN_SSRC, rts: last_known.unwrap_or(0), limit: LIMIT };
-    write(&store, settings, &requests, usize::MAX)
+    let last_known = records.iter().rev().find_map(|record| record.arrived.time);
+    let requests: Vec<Request> = store.places().iter().flatten().map(newest).collect();
+    let report = Report { sender: SENDER, rts: last_known.unwrap_or(0), limit: LIMIT };
+    write(&store, report, &requests, usize::MAX)
 }
 
-fn newest_four(stream: &Stream) -> Request {
-    Request { ssrc: stream.ssrc, begin: wrapped(stream.highest - 3), count: 4 }
+fn newest(stream: &Stream) -> Request {
+    let begin = wrapped(stream.highest + 1 - i64::from(NEWEST));
+    Request { ssrc: stream.ssrc, begin, count: NEWEST }
 }
 
 #[cfg(test)]

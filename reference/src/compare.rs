@@ -18,7 +18,7 @@ use crate::refusal::Refusal;
 use crate::{baseline, program, rng};
 use std::fmt::{self, Debug, Formatter};
 
-/// The line that tells of a mismatch.
+/// The line that reports a mismatch.
 pub type Mismatch = String;
 
 /// What is compared with the reference.
@@ -37,7 +37,10 @@ impl With {
     }
 }
 
-/// Counts the comparisons of a subject, and says where one failed.
+/// How much of a value a mismatch shows, in octets of text.
+const MOST_SHOWN: usize = 3_000;
+
+/// Counts the comparisons of a subject, and says which one failed.
 pub struct Tally {
     name: &'static str,
     pub seed: u64,
@@ -59,7 +62,7 @@ impl Tally {
         }
         let shown = |value: &dyn Debug| {
             let text = format!("{value:?}");
-            text.get(..3_000).map_or(text.clone(), |start| format!("{start}..."))
+            text.get(..MOST_SHOWN).map_or(text.clone(), |start| format!("{start}..."))
         };
         let (input, ours, reference) = (shown(input), shown(&ours), shown(&reference));
         let Tally { name, seed, case, .. } = self;
@@ -85,7 +88,7 @@ fn unwritten(room: usize) -> Vec<u8> {
     (0..room).map(|at| (at * 7 + 1) as u8).collect()
 }
 
-/// The same output after a call that answered this and wrote these octets.
+/// The same output after a call that wrote these octets, or nothing if it was refused.
 fn output(room: usize, written: &Result<Vec<u8>, u8>) -> Vec<u8> {
     let mut out = unwritten(room);
     if let Ok(written) = written {
@@ -94,7 +97,7 @@ fn output(room: usize, written: &Result<Vec<u8>, u8>) -> Vec<u8> {
     out
 }
 
-/// The reference's answer, with the refusal as its number.
+/// The reference's answer, with the refusal given by its number.
 fn numbered<T>(answer: Result<T, Refusal>) -> Result<T, u8> {
     answer.map_err(Refusal::number)
 }

@@ -1,6 +1,8 @@
 //! Cuttings of a list of requests into packets: the packet rules as a check of any cutting, the
 //! fewest packets by search, and a cutting that takes number after number.
 
+use crate::packet::{BLOCK_HEADER_OCTETS, EMPTY_PACKET_OCTETS};
+
 /// A stream, the first number asked for, and how many.
 #[derive(Clone, Copy, Debug, PartialEq, Eq)]
 #[repr(C)]
@@ -10,7 +12,7 @@ pub struct Request {
     pub count: u16,
 }
 
-/// A block that reports `count` numbers from `begin` for a request of the list.
+/// A block that reports on `count` numbers, starting at `begin`, for a request of the list.
 #[derive(Clone, Copy, Debug, PartialEq, Eq)]
 pub struct Block {
     pub request: usize,
@@ -22,15 +24,15 @@ pub type Packet = Vec<Block>;
 
 impl Block {
     fn size(&self) -> usize {
-        (8 + 2 * usize::from(self.count)).next_multiple_of(4)
+        (BLOCK_HEADER_OCTETS + 2 * usize::from(self.count)).next_multiple_of(4)
     }
 }
 
 pub fn packet_size(packet: &[Block]) -> usize {
-    12 + packet.iter().map(Block::size).sum::<usize>()
+    EMPTY_PACKET_OCTETS + packet.iter().map(Block::size).sum::<usize>()
 }
 
-/// The numbers of a range, 0 after 65535.
+/// The numbers of a range; 0 follows 65535.
 fn numbers(begin: u16, count: u16) -> Vec<u16> {
     (0..count).map(|i| begin.wrapping_add(i)).collect()
 }
@@ -84,7 +86,7 @@ fn empty_blocks(requests: &[Request]) -> Vec<Block> {
     blocks.filter(|block| block.count == 0).collect()
 }
 
-/// What is reported, in order: one block for each number, and the empty ones.
+/// What is reported, in order: a block for each number, and the empty blocks.
 fn items(requests: &[Request]) -> Vec<Block> {
     let mut items = Vec::new();
     for (request, r) in requests.iter().enumerate() {
@@ -97,12 +99,12 @@ fn items(requests: &[Request]) -> Vec<Block> {
     items
 }
 
-/// Lets the last block of a packet report one number more.
+/// Lets the last block of a packet report on one number more.
 fn lengthen(packet: &mut [Block]) {
     packet.last_mut().expect("a block").count += 1;
 }
 
-/// The packet with one item more: in its last block, if that is of the same request.
+/// The packet with one item more, in its last block if that is of the same request.
 fn with_item(packet: &[Block], item: Block) -> Packet {
     let mut longer = packet.to_vec();
     match longer.last() {
@@ -112,7 +114,7 @@ fn with_item(packet: &[Block], item: Block) -> Packet {
     longer
 }
 
-/// A cutting in which each packet takes the next item as long as that fits.
+/// The cutting in which each packet takes items as long as they fit.
 pub fn filled(requests: &[Request], limit: usize) -> Vec<Packet> {
     let mut cutting = Vec::new();
     let mut packet = Vec::new();
@@ -132,7 +134,7 @@ pub fn filled(requests: &[Request], limit: usize) -> Vec<Packet> {
 }
 
 /// Every way to group the items in order into blocks and packets, whether or not it keeps the
-/// rules. With n items there are up to 3^(n-1).
+/// rules: up to 3^(n-1) ways for n items.
 fn every_grouping(items: &[Block]) -> Vec<Vec<Packet>> {
     let Some((last, before)) = items.split_last() else {
         return vec![vec![]];
@@ -154,7 +156,7 @@ fn every_grouping(items: &[Block]) -> Vec<Vec<Packet>> {
     all
 }
 
-/// The fewest packets of all cuttings, by trying each.
+/// The fewest packets of any cutting, by trying each.
 pub fn fewest_of_all(requests: &[Request], limit: usize) -> Option<usize> {
     let all = every_grouping(&items(requests));
     let kept = all.iter().filter(|cutting| broken_rule(requests, limit, cutting).is_none());
@@ -184,7 +186,8 @@ pub fn fewest_by_table(requests: &[Request], limit: usize) -> Option<usize> {
 #[cfg(test)]
 mod tests {
     use super::*;
-    use crate::rng::Rng;
+    use crate::rng::{Rng, USUAL_SEED};
+    use crate::writer::LEAST_LIMIT;
 
     fn requests(counts: &[u16]) -> Vec<Request> {
         let request =
@@ -208,10 +211,10 @@ mod tests {
     #[test]
     fn the_searches_agree() {
         for case in 0..200 {
-            let mut rng = Rng::of_case(8888, case);
+            let mut rng = Rng::of_case(USUAL_SEED, case);
             let counts: Vec<u16> = (0..rng.below(4)).map(|_| rng.below(4) as u16).collect();
             let requests = requests(&counts);
-            let limit = 24 + 4 * rng.below(8) as usize;
+            let limit = LEAST_LIMIT + 4 * rng.below(8) as usize;
             let fewest = fewest_of_all(&requests, limit);
             assert_eq!(fewest_by_table(&requests, limit), fewest, "{counts:?} {limit}");
             let cutting = filled(&requests, limit);

@@ -1,5 +1,5 @@
 //! The C functions of a subject as a table of pointers, so that the product and the baseline are
-//! called in one way.
+//! called in the same way.
 
 /// Makes the table from the C signatures, and the product's own table: the functions of libccfb.a,
 /// if this build has the library and the subject's feature.

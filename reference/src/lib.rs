@@ -1,8 +1,8 @@
 //! A second CCFB (RFC 8888) program, naive and written from the rules alone, to compare the
 //! product with: it keeps every accepted arrival under its full number, handles fields as strings
-//! of bits and words, and looks for the fewest packets by search.
+//! of bits and words, and finds the fewest packets by search.
 //!
-//! `compare` sets it beside libccfb.a, and `baseline` is plain fast Rust on the product's own
+//! `compare` compares it with libccfb.a, and `baseline` is plain fast Rust on the product's own
 //! layout, which `bench` measures the product against.
 
 pub mod arrival_file;

@@ -3,18 +3,21 @@
 use crate::refusal::Refusal;
 use std::cmp::Ordering;
 
-/// What a filled cell holds: the mark, and the time unless it is unknown.
+/// ECN-CE, the highest mark.
+pub const CE: u8 = 3;
+
+/// The mark of an arrival, and its time unless that is unknown. A filled cell holds the same.
 #[derive(Clone, Copy, Debug, PartialEq, Eq)]
-pub struct Received {
+pub struct Arrived {
     pub mark: u8,
     pub time: Option<u32>,
 }
 
-/// The four cases of a metric that is read back.
+/// A metric that is read back, of four kinds.
 #[derive(Clone, Copy, Debug, PartialEq, Eq)]
-pub enum Reading {
+pub enum Metric {
     NotReceived,
-    Offset { mark: u8, offset: u16 },
+    Received { mark: u8, offset: u16 },
     OverRange { mark: u8 },
     NoTime { mark: u8 },
 }
@@ -26,22 +29,30 @@ struct Seconds {
     under: i128,
 }
 
-/// Times come round after 65,536 s; an age of half of that or more counts as after RTS.
-const ROUND: Seconds = Seconds { over: 65_536, under: 1 };
-const HALF_ROUND: Seconds = Seconds { over: 32_768, under: 1 };
+/// A time counts 1/65536 s, an offset 1/1024 s.
+const TIMES_IN_A_SECOND: i128 = 65_536;
+const OFFSETS_IN_A_SECOND: i128 = 1_024;
+
+/// Times wrap around after 65,536 s; an age of half of that or more counts as after RTS.
+const TIME_ROUND: Seconds = Seconds { over: 65_536, under: 1 };
+const HALF_TIME_ROUND: Seconds = Seconds { over: 32_768, under: 1 };
 /// The longest age that has an offset.
-const RANGE: Seconds = Seconds { over: 8_189, under: 1_024 };
+const RANGE: Seconds = Seconds { over: 8_189, under: OFFSETS_IN_A_SECOND };
+
+/// The 13 bits of an offset that is none.
+const NO_TIME: &str = "1111111111111";
+const OVER_RANGE: &str = "1111111111110";
 
 impl Seconds {
     fn of(time: u32) -> Seconds {
-        Seconds { over: i128::from(time), under: 65_536 }
+        Seconds { over: i128::from(time), under: TIMES_IN_A_SECOND }
     }
 
-    /// From `earlier` on the round clock up to `self`.
+    /// From `earlier` up to `self`, on a clock that wraps around.
     fn since(self, earlier: Seconds) -> Seconds {
         let over = self.over * earlier.under - earlier.over * self.under;
         let under = self.under * earlier.under;
-        let round = if over < 0 { ROUND.over * under / ROUND.under } else { 0 };
+        let round = if over < 0 { TIME_ROUND.over * under / TIME_ROUND.under } else { 0 };
         Seconds { over: over + round, under }
     }
 
@@ -51,29 +62,28 @@ impl Seconds {
 
     /// Whole 1/1024 s in it.
     fn offset(self) -> i128 {
-        (self.over * 1_024).div_euclid(self.under)
+        (self.over * OFFSETS_IN_A_SECOND).div_euclid(self.under)
     }
 }
 
 /// The 13 bits of the arrival time offset.
 fn offset_bits(time: Option<u32>, rts: u32) -> String {
-    let no_time = "1111111111111".to_string();
     let Some(time) = time else {
-        return no_time;
+        return NO_TIME.to_string();
     };
     let age = Seconds::of(rts).since(Seconds::of(time));
-    if age.compare(HALF_ROUND) != Ordering::Less {
-        no_time
+    if age.compare(HALF_TIME_ROUND) != Ordering::Less {
+        NO_TIME.to_string()
     } else if age.compare(RANGE) == Ordering::Greater {
-        "1111111111110".to_string()
+        OVER_RANGE.to_string()
     } else {
         format!("{:013b}", age.offset())
     }
 }
 
 /// The metric of a cell, empty or filled, at `rts`.
-pub fn encode(cell: Option<Received>, rts: u32) -> Result<u16, Refusal> {
-    let Some(Received { mark, time }) = cell else {
+pub fn encode(cell: Option<Arrived>, rts: u32) -> Result<u16, Refusal> {
+    let Some(Arrived { mark, time }) = cell else {
         return Ok(0);
     };
     let mark = match mark {
@@ -81,17 +91,17 @@ pub fn encode(cell: Option<Received>, rts: u32) -> Result<u16, Refusal> {
         1 => "01",
         2 => "10",
         3 => "11",
-        _ => return Err(Refusal::MarkAbove3),
+        _ => return Err(Refusal::BadMark),
     };
     let bits = format!("1{mark}{}", offset_bits(time, rts));
     Ok(u16::from_str_radix(&bits, 2).expect("sixteen bits"))
 }
 
 /// What a metric says.
-pub fn decode(metric: u16) -> Reading {
+pub fn decode(metric: u16) -> Metric {
     let bits = format!("{metric:016b}");
     if bits.starts_with('0') {
-        return Reading::NotReceived;
+        return Metric::NotReceived;
     }
     let mark = match &bits[1..3] {
         "00" => 0,
@@ -100,11 +110,11 @@ pub fn decode(metric: u16) -> Reading {
         _ => 3,
     };
     match &bits[3..] {
-        "1111111111111" => Reading::NoTime { mark },
-        "1111111111110" => Reading::OverRange { mark },
+        NO_TIME => Metric::NoTime { mark },
+        OVER_RANGE => Metric::OverRange { mark },
         offset => {
             let offset = u16::from_str_radix(offset, 2).expect("thirteen bits");
-            Reading::Offset { mark, offset }
+            Metric::Received { mark, offset }
         }
     }
 }
@@ -116,7 +126,7 @@ mod tests {
     fn offset_of_age(age: u32) -> u16 {
         let rts = 0x0005_0000;
         let time = Some(u32::wrapping_sub(rts, age));
-        encode(Some(Received { mark: 0, time }), rts).unwrap() - 0x8000
+        encode(Some(Arrived { mark: 0, time }), rts).unwrap() - 0x8000
     }
 
     #[test]
@@ -138,20 +148,20 @@ mod tests {
     #[test]
     fn marks_and_empty_cells() {
         let rts = 7;
-        let unknown = |mark| encode(Some(Received { mark, time: None }), rts);
+        let unknown = |mark| encode(Some(Arrived { mark, time: None }), rts);
         assert_eq!(encode(None, rts), Ok(0x0000));
         assert_eq!(unknown(0), Ok(0x9FFF));
         assert_eq!(unknown(1), Ok(0xBFFF));
         assert_eq!(unknown(2), Ok(0xDFFF));
         assert_eq!(unknown(3), Ok(0xFFFF));
-        assert_eq!(unknown(4), Err(Refusal::MarkAbove3));
+        assert_eq!(unknown(4), Err(Refusal::BadMark));
     }
 
     #[test]
     fn reading_back_at_the_edges() {
-        assert_eq!(decode(0x7FFF), Reading::NotReceived);
-        assert_eq!(decode(0xBFFD), Reading::Offset { mark: 1, offset: 8189 });
-        assert_eq!(decode(0xFFFE), Reading::OverRange { mark: 3 });
-        assert_eq!(decode(0xFFFF), Reading::NoTime { mark: 3 });
+        assert_eq!(decode(0x7FFF), Metric::NotReceived);
+        assert_eq!(decode(0xBFFD), Metric::Received { mark: 1, offset: 8189 });
+        assert_eq!(decode(0xFFFE), Metric::OverRange { mark: 3 });
+        assert_eq!(decode(0xFFFF), Metric::NoTime { mark: 3 });
     }
 }

@@ -1,7 +1,8 @@
-//! A CCFB packet read word by word, its octets written half-word by half-word.
+//! A CCFB packet, read word by word and written half-word by half-word.
 
-use crate::metric::{decode, Reading};
+use crate::metric::{decode, Metric};
 use crate::refusal::Refusal;
+use crate::store::wrapped;
 
 #[derive(Clone, Debug, PartialEq, Eq)]
 pub struct Packet {
@@ -17,10 +18,24 @@ pub struct Block {
     pub metrics: Vec<u16>,
 }
 
-/// The most numbers a block may report.
-pub const MOST_REPORTS: u32 = 16_384;
+/// The first two octets: version 2 in two bits, no padding in one, FMT 11 in five; type 205.
+pub const FIRST_OCTETS: [u8; 2] = [0x8B, 0xCD];
 
-/// Reads any octets.
+const VERSION: &str = "10";
+const NO_PADDING: &str = "0";
+const FMT: &str = "01011";
+const TYPE: u8 = 205;
+
+/// A packet has a header that ends with the sender, blocks that have a header each, and RTS.
+pub const HEADER_OCTETS: usize = 8;
+pub const BLOCK_HEADER_OCTETS: usize = 8;
+pub const RTS_OCTETS: usize = 4;
+pub const EMPTY_PACKET_OCTETS: usize = HEADER_OCTETS + RTS_OCTETS;
+
+/// The most numbers that a block may report on.
+pub const MOST_REPORTS: u16 = 16_384;
+
+/// Reads a packet. Accepts any octets.
 pub fn parse(octets: &[u8]) -> Result<Packet, Refusal> {
     match walk(octets)? {
         (packet, None) => Ok(packet),
@@ -28,10 +43,10 @@ pub fn parse(octets: &[u8]) -> Result<Packet, Refusal> {
     }
 }
 
-/// Reads any octets as far as they go: the blocks before the first faulty one, and its refusal.
-/// Refused as a whole only by the header.
+/// Reads a packet as far as it goes: the blocks before the first faulty one, and its refusal.
+/// Only a fault in the header refuses the whole packet.
 pub fn walk(octets: &[u8]) -> Result<(Packet, Option<Refusal>), Refusal> {
-    if octets.len() < 12 {
+    if octets.len() < EMPTY_PACKET_OCTETS {
         return Err(Refusal::PacketTooShort);
     }
     header(octets)?;
@@ -53,17 +68,17 @@ pub fn walk(octets: &[u8]) -> Result<(Packet, Option<Refusal>), Refusal> {
 
 /// Refusals 22 to 25.
 fn header(octets: &[u8]) -> Result<(), Refusal> {
-    let first = format!("{:08b}", octets[0]);
-    let (version, padding, fmt) = (&first[0..2], &first[2..3], &first[3..8]);
+    let bits = format!("{:08b}", octets[0]);
+    let (version, padding, fmt) = (&bits[0..2], &bits[2..3], &bits[3..8]);
     let words = usize::from(octets[2]) * 256 + usize::from(octets[3]) + 1;
-    if version != "10" {
-        Err(Refusal::Version)
-    } else if octets[1] != 205 || fmt != "01011" {
-        Err(Refusal::Type)
+    if version != VERSION {
+        Err(Refusal::BadVersion)
+    } else if octets[1] != TYPE || fmt != FMT {
+        Err(Refusal::BadType)
     } else if octets.len() != 4 * words {
-        Err(Refusal::Length)
-    } else if padding != "0" {
-        Err(Refusal::Padding)
+        Err(Refusal::BadLength)
+    } else if padding != NO_PADDING {
+        Err(Refusal::Padded)
     } else {
         Ok(())
     }
@@ -71,55 +86,57 @@ fn header(octets: &[u8]) -> Result<(), Refusal> {
 
 /// The rest of a block whose SSRC was just taken from the words before RTS.
 fn block(ssrc: u32, body: &mut impl Iterator<Item = u32>) -> Result<Block, Refusal> {
-    let second = body.next().ok_or(Refusal::RunsIntoRts)?;
-    let (begin, reports) = (second / 65_536, second % 65_536);
-    if reports > MOST_REPORTS {
+    let [begin, count] = halves(body.next().ok_or(Refusal::RunsIntoRts)?);
+    if count > MOST_REPORTS {
         return Err(Refusal::TooManyReports);
     }
     let mut metrics = Vec::new();
-    while metrics.len() < reports as usize {
-        let two = body.next().ok_or(Refusal::RunsIntoRts)?;
-        metrics.extend([(two / 65_536) as u16, (two % 65_536) as u16]);
+    while metrics.len() < usize::from(count) {
+        metrics.extend(halves(body.next().ok_or(Refusal::RunsIntoRts)?));
     }
-    if metrics.len() > reports as usize && metrics.pop() != Some(0) {
-        return Err(Refusal::Filler);
+    if metrics.len() > usize::from(count) && metrics.pop() != Some(0) {
+        return Err(Refusal::FillerNotZero);
     }
-    Ok(Block { ssrc, begin: begin as u16, metrics })
+    Ok(Block { ssrc, begin, metrics })
+}
+
+/// The half-words of a word.
+fn halves(word: u32) -> [u16; 2] {
+    [(word / 65_536) as u16, (word % 65_536) as u16]
 }
 
 impl Block {
-    /// In half-words, the header and the filler with it.
+    /// Its octets, with the header and the filler.
     fn size(&self) -> usize {
-        4 + self.metrics.len() + self.metrics.len() % 2
+        BLOCK_HEADER_OCTETS + 2 * (self.metrics.len() + self.metrics.len() % 2)
     }
 }
 
 impl Packet {
     pub fn block(&self, k: usize) -> Result<&Block, Refusal> {
-        self.blocks.get(k).ok_or(Refusal::NoSuchBlock)
+        self.blocks.get(k).ok_or(Refusal::NoBlock)
     }
 
-    /// The octets that hold the metrics of block `k`: where they start and how many they are.
-    pub fn metrics_part(&self, k: usize) -> Result<(usize, usize), Refusal> {
+    /// The octet where the metrics of block `k` start, and their length in octets.
+    pub fn block_metrics(&self, k: usize) -> Result<(usize, usize), Refusal> {
         let block = self.block(k)?;
         let before: usize = self.blocks[..k].iter().map(Block::size).sum();
-        Ok((2 * (4 + before + 4), 2 * block.metrics.len()))
+        let metrics_at = HEADER_OCTETS + before + BLOCK_HEADER_OCTETS;
+        Ok((metrics_at, 2 * block.metrics.len()))
     }
 
-    /// The number and the case of metric `j` of block `k`.
-    pub fn metric(&self, k: usize, j: usize) -> Result<(u16, Reading), Refusal> {
+    /// Metric `j` of block `k`, with its number.
+    pub fn metric(&self, k: usize, j: usize) -> Result<(u16, Metric), Refusal> {
         let block = self.block(k)?;
-        let metric = block.metrics.get(j).ok_or(Refusal::NoSuchNumber)?;
-        let number = (usize::from(block.begin) + j) % 65_536;
-        Ok((number as u16, decode(*metric)))
+        let metric = block.metrics.get(j).ok_or(Refusal::NoNumber)?;
+        Ok((wrapped(i64::from(block.begin) + j as i64), decode(*metric)))
     }
 
     /// The octets of this packet. Its length field must hold its length.
     pub fn octets(&self) -> Vec<u8> {
-        let halves = |word: u32| [(word / 65_536) as u16, (word % 65_536) as u16];
-        let size = 4 + self.blocks.iter().map(Block::size).sum::<usize>() + 2;
-        let length = u16::try_from(size / 2 - 1).expect("the length fits its field");
-        let mut written = vec![0x8BCD, length];
+        let size = EMPTY_PACKET_OCTETS + self.blocks.iter().map(Block::size).sum::<usize>();
+        let length = u16::try_from(size / 4 - 1).expect("the length fits its field");
+        let mut written = vec![u16::from_be_bytes(FIRST_OCTETS), length];
         written.extend(halves(self.sender));
         for block in &self.blocks {
             written.extend(halves(block.ssrc));
@@ -134,7 +151,7 @@ impl Packet {
     /// This packet with every not-received metric set to 0.
     fn tidied(mut self) -> Packet {
         for metric in self.blocks.iter_mut().flat_map(|block| &mut block.metrics) {
-            if decode(*metric) == Reading::NotReceived {
+            if decode(*metric) == Metric::NotReceived {
                 *metric = 0;
             }
         }
@@ -162,8 +179,8 @@ mod tests {
         Packet { sender: 0xF1, rts: 0x0102_0304, blocks: vec![first, second, third] }
     }
 
-    fn refusal(octets: &[u8]) -> Option<u8> {
-        parse(octets).err().map(Refusal::number)
+    fn refusal(octets: &[u8]) -> Option<Refusal> {
+        parse(octets).err()
     }
 
     fn changed(at: usize, to: u8) -> Vec<u8> {
@@ -176,13 +193,13 @@ mod tests {
     fn what_was_written_is_read() {
         let packet = example();
         assert_eq!(parse(&packet.octets()), Ok(packet.clone()));
-        assert_eq!(packet.metrics_part(0), Ok((16, 6)));
-        assert_eq!(packet.metrics_part(1), Ok((32, 0)));
-        assert_eq!(packet.metrics_part(2), Ok((40, 4)));
-        assert_eq!(packet.metrics_part(3), Err(Refusal::NoSuchBlock));
-        assert_eq!(packet.metric(0, 1), Ok((0, Reading::NotReceived)));
-        assert_eq!(packet.metric(0, 2), Ok((1, Reading::OverRange { mark: 3 })));
-        assert_eq!(packet.metric(0, 3), Err(Refusal::NoSuchNumber));
+        assert_eq!(packet.block_metrics(0), Ok((16, 6)));
+        assert_eq!(packet.block_metrics(1), Ok((32, 0)));
+        assert_eq!(packet.block_metrics(2), Ok((40, 4)));
+        assert_eq!(packet.block_metrics(3), Err(Refusal::NoBlock));
+        assert_eq!(packet.metric(0, 1), Ok((0, Metric::NotReceived)));
+        assert_eq!(packet.metric(0, 2), Ok((1, Metric::OverRange { mark: 3 })));
+        assert_eq!(packet.metric(0, 3), Err(Refusal::NoNumber));
     }
 
     #[test]
@@ -193,15 +210,15 @@ mod tests {
 
     #[test]
     fn refusals() {
-        assert_eq!(refusal(&[0; 11]), Some(21));
-        assert_eq!(refusal(&changed(0, 0x0B)), Some(22));
-        assert_eq!(refusal(&changed(0, 0xAA)), Some(23));
-        assert_eq!(refusal(&changed(1, 206)), Some(23));
-        assert_eq!(refusal(&changed(3, 9)), Some(24));
-        assert_eq!(refusal(&changed(0, 0xAB)), Some(25));
-        assert_eq!(refusal(&changed(39, 3)), Some(26));
-        assert_eq!(refusal(&changed(14, 0x41)), Some(27));
-        assert_eq!(refusal(&changed(23, 1)), Some(28));
+        assert_eq!(refusal(&[0; 11]), Some(Refusal::PacketTooShort));
+        assert_eq!(refusal(&changed(0, 0x0B)), Some(Refusal::BadVersion));
+        assert_eq!(refusal(&changed(0, 0xAA)), Some(Refusal::BadType));
+        assert_eq!(refusal(&changed(1, 206)), Some(Refusal::BadType));
+        assert_eq!(refusal(&changed(3, 9)), Some(Refusal::BadLength));
+        assert_eq!(refusal(&changed(0, 0xAB)), Some(Refusal::Padded));
+        assert_eq!(refusal(&changed(39, 3)), Some(Refusal::RunsIntoRts));
+        assert_eq!(refusal(&changed(14, 0x41)), Some(Refusal::TooManyReports));
+        assert_eq!(refusal(&changed(23, 1)), Some(Refusal::FillerNotZero));
     }
 
     #[test]

@@ -5,19 +5,19 @@ use std::io::{self, Write};
 use std::path::{Path, PathBuf};
 use std::process::{Command, Output, Stdio};
 
-/// The product's program: the environment variable CCFBLINE names it. A path that names no program
-/// fails where it is run.
+/// The product's program, which the environment variable CCFBLINE names. A path of no program fails
+/// when it is run.
 pub fn product() -> PathBuf {
     env::var_os("CCFBLINE").unwrap_or_default().into()
 }
 
-/// The baseline's program stands beside the one that runs.
+/// The baseline's program, in the folder of the running one.
 pub fn baseline() -> PathBuf {
-    let own = env::current_exe().expect("the path of this program");
-    own.with_file_name("ccfbline-baseline")
+    let running = env::current_exe().expect("the path of this program");
+    running.with_file_name("ccfbline-baseline")
 }
 
-/// What the program prints, or how it ended otherwise.
+/// What the program prints, or how it failed.
 pub fn printed(program: &Path, input: &[u8]) -> Result<String, String> {
     let mut child = Command::new(program)
         .stdin(Stdio::piped())

@@ -2,11 +2,13 @@
 
 use std::env;
 
+/// The seed of the benchmark and the tests.
+pub const USUAL_SEED: u64 = 8888;
+
 /// The seed of every comparison, unless NADRWYTHOL_SEED gives another (decimal, or hex after 0x).
 pub fn seed() -> u64 {
-    const USUAL: u64 = 8888;
     let Ok(text) = env::var("NADRWYTHOL_SEED") else {
-        return USUAL;
+        return USUAL_SEED;
     };
     let parsed = match text.strip_prefix("0x") {
         Some(hex) => u64::from_str_radix(hex, 16),

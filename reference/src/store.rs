@@ -1,20 +1,29 @@
 //! The store as a list of accepted arrivals for each stream, each under its full number: the
-//! sequence number counted on without wrapping. Every answer is read from that list.
+//! sequence number if numbers never wrapped around. Every answer is read from that list.
 
-use crate::metric::Received;
+use crate::metric::{Arrived, CE};
 use crate::refusal::Refusal;
-
-/// How many numbers a window has, and how many there are before they come round.
-pub const WINDOW: i64 = 2_048;
-pub const ROUND: i64 = 65_536;
+use std::ops::Range;
 
 pub const MOST_PLACES: usize = 16;
+
+/// A place has a cell for each number of its stream's window.
+pub const CELLS_OF_A_PLACE: usize = 2_048;
+
+/// How far behind H the numbers of a window are.
+pub const WINDOW: Range<i64> = 0..CELLS_OF_A_PLACE as i64;
+
+/// How far ahead of H a number can be; a number farther ahead counts as behind.
+const FARTHEST_AHEAD: i64 = 32_767;
+
+/// How many sequence numbers there are before they wrap around.
+const NUMBER_ROUND: i64 = 65_536;
 
 /// An accepted arrival.
 #[derive(Clone, Copy, Debug)]
 pub struct Accepted {
     pub full: i64,
-    pub received: Received,
+    pub arrived: Arrived,
 }
 
 /// A stream since it took its place.
@@ -27,12 +36,15 @@ pub struct Stream {
     pub accepted: Vec<Accepted>,
 }
 
-/// Where an accepted arrival came in.
+/// How an accepted arrival moved the window of its stream.
 #[derive(Clone, Copy, Debug, PartialEq, Eq)]
-pub enum Outcome {
+pub enum Move {
+    /// It starts the stream's first window.
     NewStream,
+    /// It is the new H.
     Ahead,
-    InWindow,
+    /// The window already had its number.
+    Within,
 }
 
 #[derive(Clone, Debug)]
@@ -42,31 +54,32 @@ pub struct Store {
 
 /// The sequence number of a full number.
 pub fn wrapped(full: i64) -> u16 {
-    full.rem_euclid(ROUND) as u16
+    full.rem_euclid(NUMBER_ROUND) as u16
 }
 
 impl Stream {
     /// The full number that `number` stands for in an arrival, found among all that wrap to it,
-    /// and where it comes in; `None` if too old.
-    fn full_of(&self, number: u16) -> Option<(i64, Outcome)> {
-        let round = self.highest.div_euclid(ROUND) * ROUND;
-        let candidates = [-ROUND, 0, ROUND].map(|rounds| round + rounds + i64::from(number));
-        let ahead = candidates.iter().find(|full| (1..=32_767).contains(&(*full - self.highest)));
-        let within = candidates.iter().find(|full| (0..WINDOW).contains(&(self.highest - *full)));
-        match (ahead, within) {
-            (Some(full), _) => Some((*full, Outcome::Ahead)),
-            (None, Some(full)) => Some((*full, Outcome::InWindow)),
+    /// and how it moves the window; `None` if too old.
+    fn full_of(&self, number: u16) -> Option<(i64, Move)> {
+        let round = self.highest.div_euclid(NUMBER_ROUND) * NUMBER_ROUND;
+        let candidates =
+            [-NUMBER_ROUND, 0, NUMBER_ROUND].map(|rounds| round + rounds + i64::from(number));
+        let is_ahead = |full: &&i64| (1..=FARTHEST_AHEAD).contains(&(*full - self.highest));
+        let is_within = |full: &&i64| WINDOW.contains(&(self.highest - *full));
+        match (candidates.iter().find(is_ahead), candidates.iter().find(is_within)) {
+            (Some(full), _) => Some((*full, Move::Ahead)),
+            (None, Some(full)) => Some((*full, Move::Within)),
             (None, None) => None,
         }
     }
 
-    /// The cells of the window, that of H first, then that of H-1 and so on.
-    pub fn window(&self) -> Vec<Option<Received>> {
-        let mut copies = vec![Vec::new(); WINDOW as usize];
+    /// The cells of the window: that of H first, then that of H-1 and so on.
+    pub fn window(&self) -> Vec<Option<Arrived>> {
+        let mut copies = vec![Vec::new(); CELLS_OF_A_PLACE];
         for accepted in &self.accepted {
             let back = self.highest - accepted.full;
-            if back < WINDOW {
-                copies[back as usize].push(accepted.received);
+            if WINDOW.contains(&back) {
+                copies[back as usize].push(accepted.arrived);
             }
         }
         copies.iter().map(|copies| cell(copies)).collect()
@@ -74,16 +87,16 @@ impl Stream {
 }
 
 /// What the accepted arrivals of one full number, in the order of calls, leave in its cell.
-fn cell(copies: &[Received]) -> Option<Received> {
+fn cell(copies: &[Arrived]) -> Option<Arrived> {
     let first = copies.first()?;
-    let congested = copies.iter().any(|copy| copy.mark == 3);
-    Some(Received { mark: if congested { 3 } else { first.mark }, time: first.time })
+    let congested = copies.iter().any(|copy| copy.mark == CE);
+    Some(Arrived { mark: if congested { CE } else { first.mark }, time: first.time })
 }
 
 impl Store {
     pub fn new(places: Vec<Option<Stream>>) -> Result<Store, Refusal> {
         if places.is_empty() || places.len() > MOST_PLACES {
-            return Err(Refusal::StoreShape);
+            return Err(Refusal::BadStore);
         }
         Ok(Store { places })
     }
@@ -101,31 +114,26 @@ impl Store {
         self.places.iter().flatten().find(|stream| stream.ssrc == ssrc)
     }
 
-    pub fn arrive(
-        &mut self,
-        ssrc: u32,
-        number: u16,
-        received: Received,
-    ) -> Result<Outcome, Refusal> {
-        if received.mark > 3 {
-            return Err(Refusal::MarkAbove3);
+    pub fn arrive(&mut self, ssrc: u32, number: u16, arrived: Arrived) -> Result<Move, Refusal> {
+        if arrived.mark > CE {
+            return Err(Refusal::BadMark);
         }
         let held = self.places.iter_mut().flatten().find(|stream| stream.ssrc == ssrc);
         let Some(stream) = held else {
-            return self.start(ssrc, number, received);
+            return self.start(ssrc, number, arrived);
         };
-        let (full, outcome) = stream.full_of(number).ok_or(Refusal::TooOld)?;
+        let (full, moved) = stream.full_of(number).ok_or(Refusal::TooOld)?;
         stream.highest = stream.highest.max(full);
-        stream.accepted.push(Accepted { full, received });
-        Ok(outcome)
+        stream.accepted.push(Accepted { full, arrived });
+        Ok(moved)
     }
 
-    fn start(&mut self, ssrc: u32, number: u16, received: Received) -> Result<Outcome, Refusal> {
+    fn start(&mut self, ssrc: u32, number: u16, arrived: Arrived) -> Result<Move, Refusal> {
         let free = self.places.iter_mut().find(|place| place.is_none());
         let place = free.ok_or(Refusal::NoFreePlace)?;
         let full = i64::from(number);
-        *place = Some(Stream { ssrc, highest: full, accepted: vec![Accepted { full, received }] });
-        Ok(Outcome::NewStream)
+        *place = Some(Stream { ssrc, highest: full, accepted: vec![Accepted { full, arrived }] });
+        Ok(Move::NewStream)
     }
 
     pub fn forget(&mut self, ssrc: u32) -> Result<(), Refusal> {
@@ -135,9 +143,9 @@ impl Store {
         Ok(())
     }
 
-    /// Which stream a place holds, and its H.
-    pub fn place(&self, place: usize) -> Result<(u32, u16), Refusal> {
-        let held = self.places.get(place).and_then(Option::as_ref);
+    /// The stream that place `k` holds, and its H.
+    pub fn place(&self, k: usize) -> Result<(u32, u16), Refusal> {
+        let held = self.places.get(k).and_then(Option::as_ref);
         let stream = held.ok_or(Refusal::NotHeld)?;
         Ok((stream.ssrc, wrapped(stream.highest)))
     }
@@ -147,31 +155,31 @@ impl Store {
 mod tests {
     use super::*;
 
-    fn received(mark: u8, time: Option<u32>) -> Received {
-        Received { mark, time }
+    fn arrived(mark: u8, time: Option<u32>) -> Arrived {
+        Arrived { mark, time }
     }
 
     /// A store of one place whose stream 7 has H = `highest`.
     fn one_stream(highest: u16) -> Store {
         let mut store = Store::fresh(1).unwrap();
-        assert_eq!(store.arrive(7, highest, received(0, None)), Ok(Outcome::NewStream));
+        assert_eq!(store.arrive(7, highest, arrived(0, None)), Ok(Move::NewStream));
         store
     }
 
     #[test]
     fn numbers_around_the_highest() {
         for (number, answer) in [
-            (0, Ok(Outcome::InWindow)),
-            (65_535, Ok(Outcome::InWindow)),
-            (63_489, Ok(Outcome::InWindow)),
+            (0, Ok(Move::Within)),
+            (65_535, Ok(Move::Within)),
+            (63_489, Ok(Move::Within)),
             (63_488, Err(Refusal::TooOld)),
-            (1, Ok(Outcome::Ahead)),
-            (32_767, Ok(Outcome::Ahead)),
+            (1, Ok(Move::Ahead)),
+            (32_767, Ok(Move::Ahead)),
             (32_768, Err(Refusal::TooOld)),
         ] {
             let mut store = one_stream(0);
-            assert_eq!(store.arrive(7, number, received(0, None)), answer, "{number}");
-            let highest = if answer == Ok(Outcome::Ahead) { number } else { 0 };
+            assert_eq!(store.arrive(7, number, arrived(0, None)), answer, "{number}");
+            let highest = if answer == Ok(Move::Ahead) { number } else { 0 };
             assert_eq!(store.place(0), Ok((7, highest)));
         }
     }
@@ -179,15 +187,15 @@ mod tests {
     #[test]
     fn copies() {
         let mut store = one_stream(9);
-        store.arrive(7, 10, received(2, None)).unwrap();
-        store.arrive(7, 10, received(3, Some(5))).unwrap();
-        store.arrive(7, 10, received(1, Some(4))).unwrap();
-        store.arrive(7, 8, received(1, Some(9))).unwrap();
-        store.arrive(7, 8, received(2, Some(4))).unwrap();
+        store.arrive(7, 10, arrived(2, None)).unwrap();
+        store.arrive(7, 10, arrived(3, Some(5))).unwrap();
+        store.arrive(7, 10, arrived(1, Some(4))).unwrap();
+        store.arrive(7, 8, arrived(1, Some(9))).unwrap();
+        store.arrive(7, 8, arrived(2, Some(4))).unwrap();
         let window = store.stream(7).unwrap().window();
-        assert_eq!(window[0], Some(received(3, None)));
-        assert_eq!(window[1], Some(received(0, None)));
-        assert_eq!(window[2], Some(received(1, Some(9))));
+        assert_eq!(window[0], Some(arrived(3, None)));
+        assert_eq!(window[1], Some(arrived(0, None)));
+        assert_eq!(window[2], Some(arrived(1, Some(9))));
         assert_eq!(window[3], None);
     }
 
@@ -195,7 +203,7 @@ mod tests {
     fn a_jump_empties_what_it_passes() {
         for (jump, stays) in [(1, true), (2_047, true), (2_048, false), (32_767, false)] {
             let mut store = one_stream(0);
-            store.arrive(7, jump, received(1, None)).unwrap();
+            store.arrive(7, jump, arrived(1, None)).unwrap();
             let filled = store.stream(7).unwrap().window().iter().flatten().count();
             assert_eq!(filled, if stays { 2 } else { 1 }, "jump {jump}");
         }
@@ -204,15 +212,15 @@ mod tests {
     #[test]
     fn places() {
         let mut store = Store::fresh(2).unwrap();
-        let nothing = received(0, None);
+        let nothing = arrived(0, None);
         assert_eq!(store.place(0), Err(Refusal::NotHeld));
         store.arrive(1, 0, nothing).unwrap();
         store.arrive(2, 0, nothing).unwrap();
         assert_eq!(store.arrive(3, 0, nothing), Err(Refusal::NoFreePlace));
-        assert_eq!(store.arrive(3, 0, received(4, None)), Err(Refusal::MarkAbove3));
+        assert_eq!(store.arrive(3, 0, arrived(4, None)), Err(Refusal::BadMark));
         assert_eq!(store.forget(3), Err(Refusal::NotHeld));
         assert_eq!(store.forget(1), Ok(()));
-        assert_eq!(store.arrive(3, 9, nothing), Ok(Outcome::NewStream));
+        assert_eq!(store.arrive(3, 9, nothing), Ok(Move::NewStream));
         assert_eq!(store.place(0), Ok((3, 9)));
         assert_eq!(store.place(2), Err(Refusal::NotHeld));
         assert!(Store::fresh(0).is_err() && Store::fresh(17).is_err());

@@ -4,9 +4,8 @@
 //! - A receiver records what arrives in a [`Store`] and [writes](Store::write) feedback from it.
 //! - A sender reads feedback as a [`Packet`].
 //!
-//! The wrapper decides nothing by itself: every answer is the library's. Where a call of the
-//! library can be refused for what the types here rule out (a mark above 3, a store of another
-//! shape), that refusal cannot happen.
+//! The wrapper decides nothing by itself: every answer is the library's. Refusals of what the types
+//! here rule out (a mark above 3, a store of another shape) cannot happen.
 //!
 //! ```
 //! use ccfb::{Mark, Metric, Packet, Refusal, Report, Store, Time};
@@ -40,7 +39,7 @@
 //!
 //! # Linking
 //!
-//! The environment variable `CCFB_LIB_DIR` names the folder of `libccfb.a` by its full path.
+//! The environment variable `CCFB_LIB_DIR` gives the full path of the folder of `libccfb.a`.
 //! Without it the crate looks where the product's `scripts/library` puts it.
 //!
 //! [RFC 8888]: https://www.rfc-editor.org/rfc/rfc8888

@@ -22,7 +22,7 @@ pub enum Mark {
     Ect1 = 1,
     /// 2: ECT(0).
     Ect0 = 2,
-    /// 3: a node on the way met congestion.
+    /// 3: ECN-CE, a node on the way met congestion.
     Ce = 3,
 }
 
@@ -69,7 +69,7 @@ impl fmt::Display for Mark {
     }
 }
 
-/// When a packet came.
+/// When a packet arrived.
 ///
 /// ```
 /// use ccfb::Time;
@@ -79,7 +79,7 @@ impl fmt::Display for Mark {
 /// ```
 #[derive(Clone, Copy, Debug, PartialEq, Eq, Hash)]
 pub enum Time {
-    /// It came, but when is not known.
+    /// It arrived at an unknown time.
     Unknown,
     /// A count of 1/65536 s: the middle 32 bits of an NTP timestamp.
     At(u32),
@@ -100,15 +100,15 @@ impl From<Time> for Option<u32> {
     }
 }
 
-/// A metric, read: what is said of one sequence number. Only one of the cases has an offset, so
-/// "over range" and "no time" cannot pass as a delay.
+/// What a metric says of one sequence number. Only one of the four kinds has an offset, so "over
+/// range" and "no time" cannot be taken for a delay.
 #[derive(Clone, Copy, Debug, PartialEq, Eq, Hash)]
 pub enum Metric {
     /// The number was not received.
     NotReceived,
-    /// It was received, so long before RTS.
+    /// It was received, this long before RTS.
     Received {
-        /// The first copy's mark, or [`Mark::Ce`] if any copy bore it.
+        /// The first copy's mark, or [`Mark::Ce`] if any copy carried it.
         mark: Mark,
         /// The arrival time offset in 1/1024 s, 0 to 8189.
         offset: u16,
@@ -143,7 +143,7 @@ impl Metric {
         }
     }
 
-    /// How long before RTS the number came, if that is said.
+    /// How long before RTS the number arrived, if the metric says so.
     ///
     /// ```
     /// use ccfb::decode_metric;
@@ -160,7 +160,7 @@ impl Metric {
     }
 }
 
-/// The 16-bit metric of a number that came with that mark and time, for feedback of RTS `rts`.
+/// The 16-bit metric of a number that arrived with this mark at this time, for a report at `rts`.
 ///
 /// ```
 /// use ccfb::{encode_metric, Mark, Time};

@@ -34,7 +34,7 @@ pub struct Packet<'a> {
 }
 
 impl<'a> Packet<'a> {
-    /// Checks the whole packet. Any octets are an input.
+    /// Checks the whole packet. Accepts any octets.
     ///
     /// # Errors
     ///
@@ -83,7 +83,7 @@ impl<'a> Packet<'a> {
         Blocks { octets: self.octets, at, left: self.blocks }
     }
 
-    /// Block `k`, from 0. To look at all blocks, [`blocks`](Packet::blocks) is quicker.
+    /// Block `k`, from 0. To read all blocks, [`blocks`](Packet::blocks) is quicker.
     ///
     /// # Errors
     ///
@@ -145,7 +145,8 @@ impl<'a> Iterator for Blocks<'a> {
 
 impl ExactSizeIterator for Blocks<'_> {}
 
-/// A report block: what is said of `count` numbers of a stream from `begin` on, 0 after 65535.
+/// A report block: what is said of `count` numbers of a stream, starting at `begin`; 0 follows
+/// 65535.
 ///
 /// ```
 /// use ccfb::{Metric, Packet, Refusal};
@@ -185,7 +186,7 @@ impl<'a> Block<'a> {
         self.count
     }
 
-    /// The part of the packet that holds the metrics, 2 octets a number.
+    /// The part of the packet that holds the metrics, 2 octets for each number.
     pub fn part(&self) -> &'a [u8] {
         self.part
     }
@@ -230,8 +231,8 @@ impl Iterator for Metrics<'_> {
 
 impl ExactSizeIterator for Metrics<'_> {}
 
-/// Writes a packet to the start of `out` with each not-received metric 0x0000 and all else equal.
-/// Gives back how many octets; those past them stay.
+/// Writes a packet to the start of `out` with each not-received metric set to 0x0000 and the rest
+/// unchanged. Returns how many octets; the rest of `out` stays as it was.
 ///
 /// # Errors
 ///

@@ -1,21 +1,22 @@
 //! The calls of libccfb.a, each behind a safe function over slices. All unsafe code is here.
 //!
-//! The library asks of a pointer that it is valid for its use, and that memory which a call writes
-//! is lent to it once. A slice's pointer with its length is that, empty or not, and so is a
-//! reference.
+//! The library needs valid pointers, and memory that a call writes must not overlap its other
+//! arguments. The pointer and length of a slice, empty or not, are valid, and so is a reference.
 
 #![allow(unsafe_code)]
 
 use crate::{Block, Mark, Metric, Refusal, Report, Request, Stream, Time};
 
-// include/ccfb.h; what a call hands out, it writes through a reference.
+// As in include/ccfb.h; a call writes its outputs through references.
 #[rustfmt::skip]
 extern "C" {
-    fn ccfb_encode_metric(mark: u8, known: bool, time: u32, rts: u32, metric: &mut u16) -> u8;
+    fn ccfb_encode_metric(
+        mark: u8, time_known: bool, time: u32, rts: u32, metric: &mut u16,
+    ) -> u8;
     fn ccfb_decode_metric(metric: u16, mark: &mut u8, offset: &mut u16) -> u8;
     fn ccfb_arrive(
         places: *mut u64, places_len: usize, cells: *mut u64, cells_len: usize,
-        ssrc: u32, number: u16, mark: u8, known: bool, time: u32,
+        ssrc: u32, number: u16, mark: u8, time_known: bool, time: u32,
     ) -> u8;
     fn ccfb_forget(
         places: *mut u64, places_len: usize, cells: *const u64, cells_len: usize, ssrc: u32,
@@ -26,7 +27,7 @@ extern "C" {
     ) -> u8;
     fn ccfb_write(
         places: *const u64, places_len: usize, cells: *const u64, cells_len: usize,
-        own: u32, rts: u32, limit: usize, requests: *const Request, requests_len: usize,
+        sender: u32, rts: u32, limit: usize, requests: *const Request, requests_len: usize,
         out: *mut u8, out_len: usize, packets: &mut usize, octets: &mut usize,
     ) -> u8;
     fn ccfb_read(
@@ -36,7 +37,8 @@ extern "C" {
         packet: *const u8, len: usize, k: usize, ssrc: &mut u32, begin: &mut u16, count: &mut u16,
     ) -> u8;
     fn ccfb_block_metrics(
-        packet: *const u8, len: usize, k: usize, offset: &mut usize, length: &mut usize,
+        packet: *const u8, len: usize, k: usize,
+        metrics_at: &mut usize, metrics_length: &mut usize,
     ) -> u8;
     fn ccfb_metric(
         packet: *const u8, len: usize, k: usize, j: usize,
@@ -45,7 +47,7 @@ extern "C" {
     fn ccfb_first_block(packet: *const u8, len: usize, at: &mut usize) -> u8;
     fn ccfb_next_block(
         packet: *const u8, len: usize, at: &mut usize,
-        ssrc: &mut u32, begin: &mut u16, count: &mut u16, metrics: &mut usize,
+        ssrc: &mut u32, begin: &mut u16, count: &mut u16, metrics_at: &mut usize,
     ) -> u8;
     fn ccfb_metric_at(
         part: *const u8, len: usize, j: usize, kind: &mut u8, mark: &mut u8, offset: &mut u16,
@@ -54,6 +56,11 @@ extern "C" {
         packet: *const u8, len: usize, out: *mut u8, out_len: usize, written: &mut usize,
     ) -> u8;
 }
+
+/// The kinds of metric, as in include/ccfb.h; any other is CCFB_NO_TIME.
+const NOT_RECEIVED: u8 = 0;
+const RECEIVED: u8 = 1;
+const OVER_RANGE: u8 = 2;
 
 fn answer<T>(refused: u8, value: T) -> Result<T, Refusal> {
     match refused {
@@ -73,19 +80,19 @@ fn flagged(time: Time) -> (bool, u32) {
 fn metric_of(kind: u8, mark: u8, offset: u16) -> Metric {
     let mark = Mark::of_bits(mark);
     match kind {
-        0 => Metric::NotReceived,
-        1 => Metric::Received { mark, offset },
-        2 => Metric::OverRange { mark },
+        NOT_RECEIVED => Metric::NotReceived,
+        RECEIVED => Metric::Received { mark, offset },
+        OVER_RANGE => Metric::OverRange { mark },
         _ => Metric::NoTime { mark },
     }
 }
 
-/// A mark above 3 is all that the call refuses, and there is no such `Mark`.
+/// The call refuses only a mark above 3, and there is no such `Mark`.
 pub fn encode_metric(mark: Mark, time: Time, rts: u32) -> u16 {
-    let (known, time) = flagged(time);
+    let (time_known, time) = flagged(time);
     let mut metric = 0;
     // SAFETY: the one pointer is a reference.
-    unsafe { ccfb_encode_metric(mark.number(), known, time, rts, &mut metric) };
+    unsafe { ccfb_encode_metric(mark.number(), time_known, time, rts, &mut metric) };
     metric
 }
 
@@ -96,7 +103,7 @@ pub fn decode_metric(metric: u16) -> Metric {
     metric_of(kind, mark, offset)
 }
 
-/// The two lent parts of a store.
+/// The two arrays of a store.
 #[derive(Clone)]
 pub struct Words {
     pub places: Box<[u64]>,
@@ -111,8 +118,8 @@ pub fn arrive(
     time: Time,
 ) -> Result<(), Refusal> {
     let Words { places, cells } = words;
-    let (known, time) = flagged(time);
-    // SAFETY: each pointer stands with the length of its slice.
+    let (time_known, time) = flagged(time);
+    // SAFETY: each pointer is passed with the length of its slice.
     let refused = unsafe {
         ccfb_arrive(
             places.as_mut_ptr(),
@@ -122,7 +129,7 @@ pub fn arrive(
             ssrc,
             number,
             mark.number(),
-            known,
+            time_known,
             time,
         )
     };
@@ -131,7 +138,7 @@ pub fn arrive(
 
 pub fn forget(words: &mut Words, ssrc: u32) -> Result<(), Refusal> {
     let Words { places, cells } = words;
-    // SAFETY: each pointer stands with the length of its slice.
+    // SAFETY: each pointer is passed with the length of its slice.
     let refused = unsafe {
         ccfb_forget(places.as_mut_ptr(), places.len(), cells.as_ptr(), cells.len(), ssrc)
     };
@@ -141,7 +148,7 @@ pub fn forget(words: &mut Words, ssrc: u32) -> Result<(), Refusal> {
 pub fn place(words: &Words, k: usize) -> Result<Stream, Refusal> {
     let Words { places, cells } = words;
     let mut held = Stream { ssrc: 0, highest: 0 };
-    // SAFETY: each pointer stands with the length of its slice; the others are references.
+    // SAFETY: each pointer is passed with the length of its slice; the others are references.
     let refused = unsafe {
         ccfb_place(
             places.as_ptr(),
@@ -156,7 +163,7 @@ pub fn place(words: &Words, k: usize) -> Result<Stream, Refusal> {
     answer(refused, held)
 }
 
-/// How many packets, and their octets.
+/// How many packets, and their total length in octets.
 pub fn write(
     words: &Words,
     report: Report,
@@ -165,7 +172,7 @@ pub fn write(
 ) -> Result<(usize, usize), Refusal> {
     let Words { places, cells } = words;
     let (mut packets, mut octets) = (0, 0);
-    // SAFETY: each pointer stands with the length of its slice; the others are references.
+    // SAFETY: each pointer is passed with the length of its slice; the others are references.
     let refused = unsafe {
         ccfb_write(
             places.as_ptr(),
@@ -189,7 +196,7 @@ pub fn write(
 /// The sender, RTS and how many blocks.
 pub fn read(packet: &[u8]) -> Result<(u32, u32, usize), Refusal> {
     let (mut sender, mut rts, mut blocks) = (0, 0, 0);
-    // SAFETY: the pointer stands with the length of its slice; the others are references.
+    // SAFETY: the pointer is passed with the length of its slice; the others are references.
     let refused =
         unsafe { ccfb_read(packet.as_ptr(), packet.len(), &mut sender, &mut rts, &mut blocks) };
     answer(refused, (sender, rts, blocks))
@@ -198,49 +205,51 @@ pub fn read(packet: &[u8]) -> Result<(u32, u32, usize), Refusal> {
 pub fn block(packet: &[u8], k: usize) -> Result<Block<'_>, Refusal> {
     let (octets, len) = (packet.as_ptr(), packet.len());
     let (mut ssrc, mut begin, mut count) = (0, 0, 0);
-    // SAFETY: the pointer stands with the length of its slice; the others are references.
+    // SAFETY: the pointer is passed with the length of its slice; the others are references.
     let refused = unsafe { ccfb_block(octets, len, k, &mut ssrc, &mut begin, &mut count) };
     answer(refused, ())?;
-    let (mut offset, mut length) = (0, 0);
+    let (mut metrics_at, mut metrics_length) = (0, 0);
     // SAFETY: as above.
-    let refused = unsafe { ccfb_block_metrics(octets, len, k, &mut offset, &mut length) };
-    answer(refused, Block { ssrc, begin, count, part: &packet[offset..offset + length] })
+    let refused =
+        unsafe { ccfb_block_metrics(octets, len, k, &mut metrics_at, &mut metrics_length) };
+    let part = &packet[metrics_at..metrics_at + metrics_length];
+    answer(refused, Block { ssrc, begin, count, part })
 }
 
 /// Metric j of block k, with its number.
 pub fn metric(packet: &[u8], k: usize, j: usize) -> Result<(u16, Metric), Refusal> {
     let (octets, len) = (packet.as_ptr(), packet.len());
     let (mut number, mut kind, mut mark, mut offset) = (0, 0, 0, 0);
-    // SAFETY: the pointer stands with the length of its slice; the others are references.
+    // SAFETY: the pointer is passed with the length of its slice; the others are references.
     let refused =
         unsafe { ccfb_metric(octets, len, k, j, &mut number, &mut kind, &mut mark, &mut offset) };
     answer(refused, (number, metric_of(kind, mark, offset)))
 }
 
-/// Where the blocks start.
+/// The octet where the first block starts.
 pub fn first_block(packet: &[u8]) -> Result<usize, Refusal> {
     let mut at = 0;
-    // SAFETY: the pointer stands with the length of its slice; the other is a reference.
+    // SAFETY: the pointer is passed with the length of its slice; the other is a reference.
     let refused = unsafe { ccfb_first_block(packet.as_ptr(), packet.len(), &mut at) };
     answer(refused, at)
 }
 
-/// The block at `at`, which moves behind it.
+/// The block at `at`, which moves past it.
 pub fn next_block<'a>(packet: &'a [u8], at: &mut usize) -> Result<Block<'a>, Refusal> {
     let (octets, len) = (packet.as_ptr(), packet.len());
-    let (mut ssrc, mut begin, mut count, mut metrics) = (0, 0, 0, 0);
-    // SAFETY: the pointer stands with the length of its slice; the others are references.
+    let (mut ssrc, mut begin, mut count, mut metrics_at) = (0, 0, 0, 0);
+    // SAFETY: the pointer is passed with the length of its slice; the others are references.
     let refused = unsafe {
-        ccfb_next_block(octets, len, at, &mut ssrc, &mut begin, &mut count, &mut metrics)
+        ccfb_next_block(octets, len, at, &mut ssrc, &mut begin, &mut count, &mut metrics_at)
     };
-    let end = metrics + 2 * usize::from(count);
-    answer(refused, Block { ssrc, begin, count, part: &packet[metrics..end] })
+    let part = &packet[metrics_at..metrics_at + 2 * usize::from(count)];
+    answer(refused, Block { ssrc, begin, count, part })
 }
 
-/// Metric j of a part that holds metrics.
+/// Metric j of a part that holds the metrics of a block.
 pub fn metric_at(part: &[u8], j: usize) -> Result<Metric, Refusal> {
     let (mut kind, mut mark, mut offset) = (0, 0, 0);
-    // SAFETY: the pointer stands with the length of its slice; the others are references.
+    // SAFETY: the pointer is passed with the length of its slice; the others are references.
     let refused =
         unsafe { ccfb_metric_at(part.as_ptr(), part.len(), j, &mut kind, &mut mark, &mut offset) };
     answer(refused, metric_of(kind, mark, offset))
@@ -249,7 +258,7 @@ pub fn metric_at(part: &[u8], j: usize) -> Result<Metric, Refusal> {
 /// How many octets were written.
 pub fn rewrite(packet: &[u8], out: &mut [u8]) -> Result<usize, Refusal> {
     let mut written = 0;
-    // SAFETY: each pointer stands with the length of its slice; the other is a reference.
+    // SAFETY: each pointer is passed with the length of its slice; the other is a reference.
     let refused = unsafe {
         ccfb_rewrite(packet.as_ptr(), packet.len(), out.as_mut_ptr(), out.len(), &mut written)
     };

@@ -3,7 +3,7 @@
 use std::error::Error;
 use std::fmt;
 
-/// Makes the enum, its numbers and its words from one list.
+/// Makes the enum, its numbers and its texts from one list.
 macro_rules! refusals {
     ($($number:literal $name:ident $meaning:literal)*) => {
         /// Why a call was refused. A refused call has changed nothing.
@@ -22,7 +22,7 @@ macro_rules! refusals {
         }
 
         impl Refusal {
-            /// Every refusal, by rising number.
+            /// Every refusal, in the order of the numbers.
             ///
             /// ```
             /// assert_eq!(ccfb::Refusal::ALL[0], ccfb::Refusal::BadMark);
@@ -57,7 +57,8 @@ refusals! {
     11 BadFileMark "arrival file under 5 octets, or without its mark"
     12 BadFileVersion "arrival file of a version that is not 1"
     13 RecordCutShort "last record of the arrival file cut short"
-    14 BadRecord "record of the arrival file with a mark above 3, a flag above 1, or a time where none is known"
+    14 BadRecord "record of the arrival file with a mark above 3, a flag above 1, \
+        or a time where none is known"
     21 PacketTooShort "packet under 12 octets"
     22 BadVersion "version not 2"
     23 BadType "type not 205 or FMT not 11"
@@ -71,7 +72,7 @@ refusals! {
 }
 
 impl Refusal {
-    /// Its number, the same as in C.
+    /// Its number, as in C.
     ///
     /// ```
     /// assert_eq!(ccfb::Refusal::TooOld.number(), 3);

@@ -4,11 +4,13 @@ use crate::raw::{self, Words};
 use crate::{Mark, Packets, Refusal, Report, Request, Time};
 use std::fmt;
 
-/// The words of cells that a place has.
+const MOST_PLACES: usize = 16;
+
+/// A place has a cell for each number of its stream's window.
 const CELLS_OF_A_PLACE: usize = 2_048;
 
 /// What arrived of up to `PLACES` RTP streams, 1 to 16: for each stream its highest sequence
-/// number H, and which of the 2,048 numbers up to H came, when, and with which mark.
+/// number H, and which of the 2,048 numbers up to H arrived, when, and with which mark.
 ///
 /// ```
 /// use ccfb::{Mark, Refusal, Store, Time};
@@ -53,7 +55,7 @@ impl Stream {
 }
 
 impl<const PLACES: usize> Store<PLACES> {
-    const PLACES_IN_RANGE: () = assert!(1 <= PLACES && PLACES <= 16, "1 to 16 places");
+    const PLACES_IN_RANGE: () = assert!(1 <= PLACES && PLACES <= MOST_PLACES, "1 to 16 places");
 
     /// A fresh store: every place is free.
     ///
@@ -66,8 +68,8 @@ impl<const PLACES: usize> Store<PLACES> {
         Store { words: Words { places: zeroed(PLACES), cells: zeroed(CELLS_OF_A_PLACE * PLACES) } }
     }
 
-    /// Records an arrival. A copy keeps the first one's time and mark, but [`Mark::Ce`] stays once
-    /// a copy bore it.
+    /// Records an arrival. A copy keeps the first one's time and mark, except that the mark becomes
+    /// [`Mark::Ce`] if any copy carried it.
     ///
     /// # Errors
     ///
@@ -92,7 +94,7 @@ impl<const PLACES: usize> Store<PLACES> {
         raw::arrive(&mut self.words, ssrc, number, mark, time)
     }
 
-    /// Forgets a stream: its place is free, and its history starts anew with its next arrival.
+    /// Forgets a stream and frees its place. Its history starts anew with its next arrival.
     ///
     /// # Errors
     ///
@@ -147,8 +149,8 @@ impl<const PLACES: usize> Store<PLACES> {
         (0..PLACES).filter_map(|k| self.place(k).ok())
     }
 
-    /// Writes feedback on the requests to the start of `out`: the fewest packets of at most
-    /// `report.limit` octets, one behind the other. The octets of `out` past them stay. An `out`
+    /// Writes feedback on the requests to the start of `out`: the fewest packets possible of at
+    /// most `report.limit` octets each, back to back. The rest of `out` stays as it was. An `out`
     /// of 12 octets for each number asked for and 20 for each request is always long enough.
     ///
     /// # Errors
@@ -185,7 +187,7 @@ impl<const PLACES: usize> Default for Store<PLACES> {
     }
 }
 
-/// The streams held; the cells would be too many.
+/// Shows the streams held, but not the many cells.
 impl<const PLACES: usize> fmt::Debug for Store<PLACES> {
     fn fmt(&self, f: &mut fmt::Formatter<'_>) -> fmt::Result {
         f.debug_list().entries(self.streams()).finish()

@@ -1,10 +1,10 @@
-//! What the writer takes and gives.
+//! What the writer takes and returns.
 
-/// A request for feedback on `count` numbers of a stream from `begin` on.
+/// A request for feedback on `count` numbers of a stream, starting at `begin`.
 ///
 /// They must lie in the stream's window: (H - begin) modulo 65536 is below 2,048 and at least
 /// count - 1. A count of 0 asks for an empty block and needs begin = H.
-/// [`Stream::newest`](crate::Stream::newest) makes one that does.
+/// [`Stream::newest`](crate::Stream::newest) makes a request that meets this.
 #[derive(Clone, Copy, Debug, PartialEq, Eq, Hash)]
 #[repr(C)]
 pub struct Request {
@@ -19,11 +19,11 @@ pub struct Request {
 /// What the packets of one report have in common.
 #[derive(Clone, Copy, Debug, PartialEq, Eq, Hash)]
 pub struct Report {
-    /// The SSRC of the feedback's sender.
+    /// The SSRC of the packets' sender.
     pub own: u32,
     /// The report timestamp, in 1/65536 s.
     pub rts: u32,
-    /// How many octets a packet may have, 24 to 9,000.
+    /// The most octets that a packet may have, 24 to 9,000.
     pub limit: usize,
 }
 

@@ -1,4 +1,4 @@
-//! The refusals stand in the C header under the same names and numbers.
+//! The C header has the refusals under the same names and numbers.
 
 use ccfb::Refusal;
 

@@ -1,4 +1,4 @@
-//! How the writer's packets come out.
+//! How the writer cuts requests into packets.
 
 mod common;
 
@@ -39,11 +39,11 @@ fn twelve_octets_a_number_and_twenty_a_request_are_room_enough() -> Result<(), R
             let asked: u16 = counts.iter().sum();
             let mut out = vec![0; 12 * usize::from(asked) + 20 * requests.len()];
             let packets = store.write(Report { own: 1, rts: 2, limit }, &requests, &mut out)?;
-            let mut told = 0;
+            let mut reported = 0;
             for octets in packets {
-                told += Packet::read(octets)?.blocks().map(|block| block.count()).sum::<u16>();
+                reported += Packet::read(octets)?.blocks().map(|block| block.count()).sum::<u16>();
             }
-            assert_eq!(told, asked);
+            assert_eq!(reported, asked);
         }
     }
     Ok(())

@@ -1,4 +1,4 @@
-//! Every refusal that a call of the crate can give, and their order.
+//! Every refusal that a call of the crate can return, and their order.
 
 mod common;
 
@@ -9,7 +9,7 @@ use common::store_with;
 const PACKET: [u8; 28] = *b"\x8b\xcd\x00\x06\x00\x00\x00\xf1\x00\x00\x0a\x01\x00\x09\x00\x04\
     \x80\x00\x80\x00\x80\x00\x80\x00\x00\x05\x00\x00";
 
-/// The packet with those octets in the place of its own.
+/// The packet with some of its octets replaced.
 fn with(octets: &[(usize, u8)]) -> [u8; 28] {
     let mut packet = PACKET;
     for &(at, octet) in octets {

@@ -1,4 +1,4 @@
--- A header and a record are what their own octets say, whatever comes behind. Assumes nothing.
+-- A header and a record are what their own octets say, whatever comes after them. Assumes nothing.
 use Prim.Native.Nat.{ℕ, _+_, _<_, _≤_}
 use mathlib.Core.Path.{_≡_}
 use mathlib.Core.List.{List, _++_}
@@ -6,7 +6,7 @@ use native.Mathlib.Omega.{arith}
 use borrow.Author.Tests.{le-ltb}
 use lib.ListN.{length, getD, length-append, List·getD-append}
 use Rattle.octets.specs.Octets.{be16, be32}
-use Rattle.arrival_file.specs.File.{headerOf, entryOf}
+use Rattle.arrival_file.specs.File.{headerOf, recordReadOf, fileHeaderOctets, recordOctets}
 
 module _ (s t : List ℕ) where
   front : (i : ℕ) → i < length s → getD (s ++ t) i 0 ≡ getD s i 0
@@ -20,14 +20,27 @@ module _ (s t : List ℕ) where
   unfolding be32
   front32 i h = rw (front16 i (omega arith), front16 (i + 2) (omega arith))
 
-  pub header-front : 5 ≤ length s → headerOf (s ++ t) ≡ headerOf s
+  pub header-front : fileHeaderOctets ≤ length s → headerOf (s ++ t) ≡ headerOf s
   unfolding headerOf
   header-front h =
-      simp
-      (le-ltb (length (s ++ t)) 5 (omega (arith, length-append s t)), le-ltb (length s) 5 h, front 0 (omega arith), front 1 (omega arith), front 2 (omega arith), front16 3 (omega arith))
+      simp (
+        le-ltb (length (s ++ t)) fileHeaderOctets (omega (arith, length-append s t)),
+        le-ltb (length s) fileHeaderOctets h,
+        front 0 (omega arith),
+        front 1 (omega arith),
+        front 2 (omega arith),
+        front16 3 (omega arith),
+      )
 
-  pub entry-front : 12 ≤ length s → entryOf (s ++ t) ≡ entryOf s
-  unfolding entryOf
+  pub entry-front : recordOctets ≤ length s → recordReadOf (s ++ t) ≡ recordReadOf s
+  unfolding recordReadOf
   entry-front h =
-      simp
-      (le-ltb (length (s ++ t)) 12 (omega (arith, length-append s t)), le-ltb (length s) 12 h, front 6 (omega arith), front 7 (omega arith), front16 4 (omega arith), front32 0 (omega arith), front32 8 (omega arith))
+      simp (
+        le-ltb (length (s ++ t)) recordOctets (omega (arith, length-append s t)),
+        le-ltb (length s) recordOctets h,
+        front 6 (omega arith),
+        front 7 (omega arith),
+        front16 4 (omega arith),
+        front32 0 (omega arith),
+        front32 8 (omega arith),
+      )

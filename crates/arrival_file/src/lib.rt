@@ -1,8 +1,15 @@
-// The arrival file that ccfbline reads: a header of 5 octets, then records of 12.
+// The arrival file that ccfbline reads: a header of 5 octets (`ARL`, and a 16-bit version), then records of 12.
 ghost use mathlib.Core.Path.{_≡_};
-ghost use Rattle.arrival_file.specs.File.{headerOf, isFaulty, timeOf, entryOf, endOf};
+ghost use Rattle.arrival_file.specs.File.{headerOf, isFaulty, recordReadOf, endOf};
+use metric::CONGESTED;
 use metric::Time;
 use refusal::Refusal;
+
+pub const FILE_HEADER_OCTETS: usize = 5;
+
+pub const RECORD_OCTETS: usize = 12;
+
+const FILE_VERSION: u16 = 1;
 
 // One arrival of the file.
 pub struct Record {
@@ -13,17 +20,18 @@ pub struct Record {
 }
 
 // What stands where a record is due.
-pub enum Entry {
+pub enum RecordRead {
     Record(Record),
     Refused(Refusal),
 }
 
+// What a test of the file finds: no fault, or its first one.
 pub enum Check {
     Sound,
     Refused(Refusal),
 }
 
-// How far a file has been read: it starts with the header, then come the records. A file that has a fault is read no further.
+// How far a file has been read: its header, then its records. A file that has a fault is read no further.
 pub enum Phase {
     Header,
     Records,
@@ -32,9 +40,9 @@ pub enum Phase {
 
 // The header of a file: refusals 11, 12.
 pub fn check_header(s: &[u8]) -> Check
-    ensures { λ r. ⌜ r ≡ headerOf (now (s .entry)) ⌝ }
+    ensures value { λ r. ⌜ r ≡ headerOf (now (s .entry)) ⌝ }
 {
-    if s.len() < 5 {
+    if s.len() < FILE_HEADER_OCTETS {
         return Check::Refused(Refusal::BadFileMark);
     }
     if s[0] != b'A' {
@@ -46,7 +54,7 @@ pub fn check_header(s: &[u8]) -> Check
     if s[2] != b'L' {
         return Check::Refused(Refusal::BadFileMark);
     }
-    if octets::get16(s, 3) != 1 {
+    if octets::get16(s, 3) != FILE_VERSION {
         return Check::Refused(Refusal::BadFileVersion);
     }
     Check::Sound
@@ -54,9 +62,9 @@ pub fn check_header(s: &[u8]) -> Check
 
 // A mark above 3, a flag above 1, or a time where the flag says that there is none.
 fn is_faulty(mark: u8, flag: u8, time: u32) -> bool
-    ensures { λ r. ⌜ r ≡ isFaulty mark flag time ⌝ }
+    ensures value { λ r. ⌜ r ≡ isFaulty mark flag time ⌝ }
 {
-    if 3 < mark {
+    if CONGESTED < mark {
         return true;
     }
     if 1 < flag {
@@ -68,40 +76,32 @@ fn is_faulty(mark: u8, flag: u8, time: u32) -> bool
     time != 0
 }
 
-fn time_of(flag: u8, time: u32) -> Time
-    ensures { λ r. ⌜ r ≡ timeOf flag time ⌝ }
+// The record at the front of some octets of a file (SSRC 4 octets, number 2, mark 1, time-known flag 1, time 4):
+// refusals 13, 14.
+pub fn read_record(s: &[u8]) -> RecordRead
+    ensures value { λ r. ⌜ r ≡ recordReadOf (now (s .entry)) ⌝ }
 {
-    if flag == 0 {
-        return Time::Unknown;
-    }
-    Time::Known(time)
-}
-
-// The record at the front of some octets of a file: refusals 13, 14.
-pub fn read_record(s: &[u8]) -> Entry
-    ensures { λ r. ⌜ r ≡ entryOf (now (s .entry)) ⌝ }
-{
-    if s.len() < 12 {
-        return Entry::Refused(Refusal::RecordCutShort);
+    if s.len() < RECORD_OCTETS {
+        return RecordRead::Refused(Refusal::RecordCutShort);
     }
     let mark = s[6];
     let flag = s[7];
     let time = octets::get32(s, 8);
     let faulty = is_faulty(mark, flag, time);
     if faulty {
-        return Entry::Refused(Refusal::BadRecord);
+        return RecordRead::Refused(Refusal::BadRecord);
     }
-    Entry::Record(Record {
+    RecordRead::Record(Record {
         ssrc: octets::get32(s, 0),
         number: octets::get16(s, 4),
         mark: mark,
-        time: time_of(flag, time),
+        time: metric::time_of(flag != 0, time),
     })
 }
 
-// The end of a file of which so many octets were not taken yet: refusals 11, 13.
+// The end of a file, with so many octets that were not taken: refusals 11, 13, or the fault that was found.
 pub fn check_end(phase: Phase, left: usize) -> Check
-    ensures { λ r. ⌜ r ≡ endOf phase left ⌝ }
+    ensures value { λ r. ⌜ r ≡ endOf phase left ⌝ }
 {
     match phase {
         Phase::Header => Check::Refused(Refusal::BadFileMark),

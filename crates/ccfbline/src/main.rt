@@ -1,7 +1,8 @@
 // Reads an arrival file from standard input, and prints the feedback on its streams or the file's first fault.
 ghost use Prim.Native.Nat.{_≤_, _<_};
 ghost use lib.ListN.{length};
-ghost use Rattle.ccfbline.specs.Turn.{Short};
+ghost use Rattle.arrival_file.specs.File.{recordOctets};
+ghost use Rattle.ccfbline.specs.Turn.{bufferOctets, Short};
 use arrival_file::Phase;
 use intake::Intake;
 use libc::STDIN_FILENO;
@@ -20,10 +21,12 @@ enum Input {
     Failed,
 }
 
-// Reads once, behind the octets that are left, and takes what came. A file is read to its end or its first fault.
+// Reads once into the buffer, after the octets that are left, and takes what came. A file is read to its end or its
+// first fault.
 fn take_once(places: &mut [u64], cells: &mut [u64], buf: &mut [u8], intake: Intake) -> Turn
-    requires { ⌜ (intake .left < 12) × (65536 ≤ length (now buf)) ⌝ }
-    ensures { λ r. ⌜ Short r ⌝ }
+    requires few { ⌜ intake .left < recordOctets ⌝ }
+    requires room { ⌜ bufferOctets ≤ length (now buf) ⌝ }
+    ensures few { λ r. ⌜ Short r ⌝ }
 {
     let left = intake.left;
     let got = libc::read(STDIN_FILENO, &mut buf[left..]);
@@ -43,9 +46,10 @@ fn take_once(places: &mut [u64], cells: &mut [u64], buf: &mut [u8], intake: Inta
     Turn::More(next)
 }
 
-// Takes the input, of any length. A proved loop has to end, and nothing says that an input does: the turns count down from a number that no run uses up.
+// Takes the input, of any length. A proved loop has to end, and nothing says that an input does: the turns count down
+// from a number that no run uses up.
 fn take_input(places: &mut [u64], cells: &mut [u64], buf: &mut [u8]) -> Input
-    requires { ⌜ 65536 ≤ length (now buf) ⌝ }
+    requires room { ⌜ bufferOctets ≤ length (now buf) ⌝ }
 {
     let mut intake = intake::start();
     let mut turns = u64::MAX;
@@ -63,7 +67,7 @@ fn take_input(places: &mut [u64], cells: &mut [u64], buf: &mut [u8]) -> Input
     Input::Failed
 }
 
-// Prints what is to be printed of the input that was taken.
+// Prints the feedback on the input that was taken, or its first fault.
 fn print(places: &[u64], cells: &[u64], intake: Intake) {
     let mut out = io::buffer();
     let n = line::finish(places, cells, intake, &mut out);

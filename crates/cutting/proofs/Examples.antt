@@ -4,17 +4,18 @@ use mathlib.Core.List.{List, [], _∷_, map, append-nil}
 use Prim.Native.Nat.{ℕ, _≤_, _<_}
 use native.Mathlib.Omega.{arith}
 use lib.ListN.{length}
-use Rattle.refusal.specs.Lists.{All}
+use Rattle.lists.specs.All.{All}
+use Rattle.packet.specs.Sizes.{packetOctets}
 use Rattle.cutting.specs.declared.Request.{Request}
-use Rattle.cutting.specs.Cutting.{Block, Cutting, numbersFrom, reported, packetOctets, RangeRules, PacketRules, Cuts}
+use Rattle.cutting.specs.Cutting.{CutBlock, Cutting, numbersFrom, numbersReported, RangeRules, PacketRules, Cuts, CutPacket, counts}
 use Rattle.cutting.specs.Plan.{nextBlock, filledFrom, packetsFrom, plan}
 
--- five numbers from 65534 on and three from 0 on
+-- five numbers starting at 65534, and three starting at 0
 pub five-three : List Request
 five-three = record { ssrc = 7; begin = 65534; count = 5 } ∷ record { ssrc = 8; begin = 0; count = 3 } ∷ []
 
--- document 01, "Cases at the edges": the octets of the packets at limits 32, 44 and 48, and at 47, which is rounded down to 44
-pub sizes : map (λ (limit : ℕ). map packetOctets (plan limit five-three)) (32 ∷ 44 ∷ 48 ∷ 47 ∷ [])
+-- the octets of the packets at limits 32, 44 and 48, and at 47, which is rounded down to 44
+pub sizes : map (λ (limit : ℕ). map (λ (p : CutPacket). packetOctets (counts p)) (plan limit five-three)) (32 ∷ 44 ∷ 48 ∷ 47 ∷ [])
     ≡ (32 ∷ 28 ∷ []) ∷ (44 ∷ 24 ∷ []) ∷ (48 ∷ []) ∷ (44 ∷ 24 ∷ []) ∷ []
 unfolding five-three nextBlock filledFrom packetsFrom
 sizes = refl
@@ -29,7 +30,7 @@ no-request = refl
 pub three : List Request
 three = record { ssrc = 7; begin = 65535; count = 2 } ∷ record { ssrc = 8; begin = 0; count = 3 } ∷ record { ssrc = 9; begin = 4; count = 0 } ∷ []
 
-block : ℕ → ℕ → ℕ → Block
+block : ℕ → ℕ → ℕ → CutBlock
 block i s k = record { request = i; begin = s; count = k }
 
 -- a packet for each request
@@ -46,13 +47,14 @@ pub slack : Cutting
 slack = (block 0 65535 2 ∷ block 1 0 1 ∷ []) ∷ (block 1 1 2 ∷ block 2 4 0 ∷ []) ∷ []
 
 -- a range with numbers in it, one with none, and a packet of one block
-some : (a : Block) (bs : List Block) → 0 < a .count → reported bs ≡ numbersFrom (a .begin) (a .count) → All (λ b. 0 < b .count) bs → RangeRules a bs
+some : (a : CutBlock) (bs : List CutBlock) → 0 < a .count → numbersReported bs ≡ numbersFrom (a .begin) (a .count)
+    → All (λ b. 0 < b .count) bs → RangeRules a bs
 some a bs h e f = record { range = e; empty = λ z. absurd (omega arith); filled = λ _. f }
 
-none : (a : Block) → a .count ≡ 0 → RangeRules a (a ∷ [])
+none : (a : CutBlock) → a .count ≡ 0 → RangeRules a (a ∷ [])
 none a z = record { range = append-nil _; empty = λ _. refl; filled = λ h. absurd (omega arith) }
 
-alone : (b : Block) → b .count ≤ 12 → PacketRules 56 three (b ∷ [])
+alone : (b : CutBlock) → b .count ≤ 12 → PacketRules 56 three (b ∷ [])
 alone b h = record { some = omega arith; once = (tt, tt); fits = omega arith }
 
 pub others-cut : All (Cuts 56 three) (by-request ∷ by-number ∷ slack ∷ [])
@@ -69,7 +71,10 @@ others-cut = (
       known = omega arith;
       ordered = omega arith;
       ranges = (some _ _ (omega arith) refl (omega arith), (some _ _ (omega arith) refl (omega arith), (none _ refl, tt)));
-      packets = (alone _ (omega arith), (alone _ (omega arith), (alone _ (omega arith), (alone _ (omega arith), (alone _ (omega arith), (alone _ (omega arith), tt))))));
+      packets = (
+        alone _ (omega arith),
+        (alone _ (omega arith), (alone _ (omega arith), (alone _ (omega arith), (alone _ (omega arith), (alone _ (omega arith), tt))))),
+      );
     },
     (
       record {

@@ -1,4 +1,3 @@
-pub mod Lists
 pub mod Plan
 pub mod Requests
 pub mod Split

@@ -1,3 +1,5 @@
+pub mod Limits
 pub mod Cutting
 pub mod Plan
 pub mod Measure
+pub mod Steps

@@ -2,11 +2,25 @@
 ghost use mathlib.Core.Path.{_≡_};
 ghost use Prim.Native.Nat.{_≤_, _<_};
 ghost use lib.ListN.{take};
-ghost use Rattle.cutting.specs.Cutting.{blockOctets};
+ghost use Rattle.cutting.specs.Limits.{leastLimit, mostLimit, mostRequests};
 ghost use Rattle.cutting.specs.Plan.{fitting, nextBlock, numberAfter, plan};
-ghost use Rattle.cutting.specs.Measure.{Full, Adds, Measures};
+ghost use Rattle.cutting.specs.Steps.{FullPackets, Adds};
+ghost use Rattle.cutting.specs.Measure.{Measures};
+use packet::BLOCK_HEADER_OCTETS;
+use packet::PACKET_FRAME;
 
-// `count` numbers from `begin` on of a stream.
+// A caller may give at most so many requests, and a limit of so many octets to a packet. The least limit holds a packet
+// that reports a number.
+pub const MOST_REQUESTS: usize = 16;
+
+pub const LEAST_LIMIT: usize = 24;
+
+pub const MOST_LIMIT: usize = 9000;
+
+// The smallest block that reports a number.
+const LEAST_FILLED: usize = BLOCK_HEADER_OCTETS + 4;
+
+// A request to report `count` numbers of a stream, starting at `begin`.
 #[repr(C)]
 pub struct Request {
     pub ssrc: u32,
@@ -14,14 +28,14 @@ pub struct Request {
     pub count: u16,
 }
 
-// What of the next range goes into the packet that is open: all of it, its first numbers, or nothing more.
+// What of the next range goes into the open packet: all of it, its first numbers, or nothing more.
 pub enum NextBlock {
     Whole,
     Part(u16),
     Closed,
 }
 
-// Packets, and their octets together.
+// How many packets there are, and their octets together.
 pub struct Total {
     pub packets: usize,
     pub octets: usize,
@@ -34,31 +48,24 @@ pub struct Added {
     pub room: usize,
 }
 
-// The octets of a report block of `count` numbers.
-pub fn block_octets(count: u16) -> usize
-    ensures { λ r. ⌜ r ≡ blockOctets count ⌝ }
-{
-    (8 + 2 * (count as usize) + 3) / 4 * 4
-}
-
 // How many numbers a block can have in `room` octets.
 pub fn numbers_in(room: usize) -> u16
-    requires { ⌜ room ≤ 9000 ⌝ }
-    ensures { λ r. ⌜ r ≡ fitting room ⌝ }
+    requires small { ⌜ room ≤ mostLimit ⌝ }
+    ensures value { λ r. ⌜ r ≡ fitting room ⌝ }
 {
-    if room < 12 {
+    if room < LEAST_FILLED {
         0
     } else {
-        ((room - 8) / 4 * 2) as u16
+        ((room - BLOCK_HEADER_OCTETS) / 4 * 2) as u16
     }
 }
 
-// The next block of a packet with `room` octets left, where `count` numbers are the next.
+// The next block of a packet with `room` octets left, where a range of `count` numbers is the next.
 pub fn next_block(room: usize, count: u16) -> NextBlock
-    requires { ⌜ room ≤ 9000 ⌝ }
-    ensures { λ r. ⌜ r ≡ nextBlock room count ⌝ }
+    requires small { ⌜ room ≤ mostLimit ⌝ }
+    ensures value { λ r. ⌜ r ≡ nextBlock room count ⌝ }
 {
-    if block_octets(count) <= room {
+    if packet::block_octets(count) <= room {
         return NextBlock::Whole;
     }
     let first = numbers_in(room);
@@ -70,15 +77,15 @@ pub fn next_block(room: usize, count: u16) -> NextBlock
 
 // The number `j` after `begin`.
 pub fn number_after(begin: u16, j: u16) -> u16
-    ensures { λ r. ⌜ r ≡ numberAfter begin j ⌝ }
+    ensures value { λ r. ⌜ r ≡ numberAfter begin j ⌝ }
 {
     std::num::wrapping_add_u16(begin, j)
 }
 
 // How many packets `count` numbers fill before the last, with `most` numbers in each.
 fn full_packets(most: u16, count: u16) -> u16
-    requires { ⌜ 1 < most ⌝ }
-    ensures { λ r. ⌜ Full most count r ⌝ }
+    requires several { ⌜ 1 < most ⌝ }
+    ensures value { λ r. ⌜ FullPackets most count r ⌝ }
 {
     if count <= most {
         return 0;
@@ -88,36 +95,39 @@ fn full_packets(most: u16, count: u16) -> u16
 
 // What a range of `count` numbers adds in packets of its own.
 fn add_packets(limit: usize, count: u16) -> Added
-    requires { ⌜ (24 ≤ limit) × (limit ≤ 9000) ⌝ }
-    ensures { λ r. ⌜ Adds limit 0 count r ⌝ }
+    requires least { ⌜ leastLimit ≤ limit ⌝ }
+    requires most { ⌜ limit ≤ mostLimit ⌝ }
+    ensures value { λ r. ⌜ Adds limit 0 count r ⌝ }
 {
-    let most = numbers_in(limit - 12);
+    let most = numbers_in(limit - PACKET_FRAME);
     let full = full_packets(most, count);
-    let last = block_octets(count - full * most);
+    let last = packet::block_octets(count - full * most);
     Added {
         packets: (full as usize) + 1,
-        octets: (full as usize) * (12 + block_octets(most)) + 12 + last,
-        room: limit - 12 - last,
+        octets: (full as usize) * (PACKET_FRAME + packet::block_octets(most)) + PACKET_FRAME + last,
+        room: limit - PACKET_FRAME - last,
     }
 }
 
-// What a range of `count` numbers adds behind a packet with `room` octets left.
+// What a range of `count` numbers adds, where the last packet has `room` octets left.
 fn add_range(limit: usize, room: usize, count: u16) -> Added
-    requires { ⌜ (24 ≤ limit) × (limit ≤ 9000) × (room ≤ 9000) ⌝ }
-    ensures { λ r. ⌜ Adds limit room count r ⌝ }
+    requires least { ⌜ leastLimit ≤ limit ⌝ }
+    requires most { ⌜ limit ≤ mostLimit ⌝ }
+    requires small { ⌜ room ≤ mostLimit ⌝ }
+    ensures value { λ r. ⌜ Adds limit room count r ⌝ }
 {
     let next = next_block(room, count);
     match next {
         NextBlock::Whole => Added {
             packets: 0,
-            octets: block_octets(count),
-            room: room - block_octets(count),
+            octets: packet::block_octets(count),
+            room: room - packet::block_octets(count),
         },
         NextBlock::Part(first) => {
             let more = add_packets(limit, count - first);
             Added {
                 packets: more.packets,
-                octets: block_octets(first) + more.octets,
+                octets: packet::block_octets(first) + more.octets,
                 room: more.room,
             }
         }
@@ -125,10 +135,13 @@ fn add_range(limit: usize, room: usize, count: u16) -> Added
     }
 }
 
-// The packets that the first n requests take and their octets, by division.
-pub fn measure(limit: usize, requests: [Request; 16], n: usize) -> Total
-    requires { ⌜ (24 ≤ limit) × (limit ≤ 9000) × (n ≤ 16) ⌝ }
-    ensures { λ r. ⌜ Measures (plan limit (take n requests)) r ⌝ }
+// How many packets the first n requests take, and their octets. It divides, for speed alone: it goes by requests, and
+// not by packets.
+pub fn measure(limit: usize, requests: [Request; MOST_REQUESTS], n: usize) -> Total
+    requires least { ⌜ leastLimit ≤ limit ⌝ }
+    requires most { ⌜ limit ≤ mostLimit ⌝ }
+    requires few { ⌜ n ≤ mostRequests ⌝ }
+    ensures value { λ r. ⌜ Measures (plan limit (take n requests)) r ⌝ }
 {
     let mut packets = 0;
     let mut octets = 0;

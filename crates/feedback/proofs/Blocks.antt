@@ -1,23 +1,25 @@
 -- What holds of each number of each range holds of each number that a reader is told. Assumes nothing.
-use Prim.Native.Nat.{ℕ, zero, suc, _+_, _%_, _≤_, _<_}
-use mathlib.Core.Path.{_≡_, refl, sym, ap, subst, _∙_}
+use Prim.Native.Nat.{ℕ, zero, suc, _+_, _%_, _<_}
+use mathlib.Core.Path.{_≡_, refl, subst, _∙_}
 use mathlib.Core.Bool.{Bool, true, false, cond}
-use mathlib.Core.List.{List, [], _∷_, _++_, map}
+use mathlib.Core.List.{List, [], _∷_, map}
 use native.Mathlib.Omega.{arith}
 use lib.ListN.{length, getD}
 use lib.Dec.{eqb}
 use borrow.Author.Tests.{eqb-true}
-use Rattle.refusal.specs.Lists.{All}
-use Rattle.refusal.proofs.Cases.{never, split-le}
-use Rattle.packet.specs.Walk.{Walked, walked, stopped, walkOf}
-use Rattle.packet.specs.Reading.{nth, located}
-use Rattle.packet.specs.declared.ReportBlock.{ReportBlock}
-use Rattle.packet.specs.declared.BlockAnswer.the-variants as answer
-use Rattle.cutting.specs.Cutting.{Block, Packet, Cutting, following, numbersFrom, allBlocks, streamOf, Cuts}
+use Rattle.lists.specs.All.{All}
+use Rattle.lists.proofs.Cases.{never, split-le}
+use Rattle.lists.proofs.All.{all-left, all-right}
+use Rattle.walk.specs.Walk.{Walked, walked, stopped, walkOf}
+use Rattle.walk.specs.declared.ReportBlock.{ReportBlock}
+use Rattle.reader.specs.Reading.{nth, located}
+use Rattle.cutting.specs.Cutting.{CutBlock, Cutting, following, numbersFrom, allBlocks, streamOf, Cuts}
 use Rattle.cutting.specs.declared.Request.{Request}
+use Rattle.cutting.proofs.Requests.{length-numbers}
 use Rattle.writer_laws.specs.Read.{requestOf, blockRead, blocksRead, cuttingRead}
 use Rattle.feedback.specs.Seen.{OfNumbers}
-use Rattle.feedback.proofs.Ranges.{all-left, all-right, Each, OfRequests, each-of-cutting}
+use Rattle.feedback.proofs.Ranges.{Each, OfRequests, each-of-cutting}
+use Rattle.reader.specs.declared.BlockAnswer.the-variants as answer
 
 -- number j of a range
 number-at : (begin count j : ℕ) → begin < 65536 → j < count → getD (numbersFrom begin count) j 0 ≡ (begin + j) % 65536
@@ -38,23 +40,20 @@ all-at P [] j l h = absurd (omega arith)
 all-at P (x ∷ xs) zero l h = h .0
 all-at P (x ∷ xs) (suc j) l h = all-at P xs j (omega arith) (h .1)
 
-length-numbers : (s k : ℕ) → length (numbersFrom s k) ≡ k
-length-numbers s zero = refl
-length-numbers s (suc k) = ap suc (length-numbers (following s) k)
-
 -- the request of an SSRC that some request has
 request-named : (rs : List Request) (ssrc : ℕ) → requestOf rs ssrc < length rs → streamOf rs (requestOf rs ssrc) ≡ ssrc
 unfolding requestOf
 request-named [] ssrc l = absurd (omega arith)
 request-named (r ∷ rs) ssrc l = by-test (eqb (r .ssrc) ssrc) refl (λ k. request-named rs ssrc k) l
   where
-    by-test : (t : Bool) → eqb (r .ssrc) ssrc ≡ t → (requestOf rs ssrc < length rs → streamOf rs (requestOf rs ssrc) ≡ ssrc) → cond t 0 (suc (requestOf rs ssrc)) < suc (length rs)
+    by-test : (t : Bool) → eqb (r .ssrc) ssrc ≡ t → (requestOf rs ssrc < length rs → streamOf rs (requestOf rs ssrc) ≡ ssrc)
+        → cond t 0 (suc (requestOf rs ssrc)) < suc (length rs)
         → streamOf (r ∷ rs) (cond t 0 (suc (requestOf rs ssrc))) ≡ ssrc
     by-test true e rec l = eqb-true (r .ssrc) ssrc e
     by-test false e rec l = rec (omega arith)
 
 -- of all blocks, so of those of each packet
-all-packets : (Q : Block → Type 0) (c : Cutting) → All Q (allBlocks c) → All (All Q) c
+all-packets : (Q : CutBlock → Type 0) (c : Cutting) → All Q (allBlocks c) → All (All Q) c
 all-packets Q [] h = tt
 all-packets Q (p ∷ c) h = (all-left Q p (allBlocks c) h, all-packets Q c (all-right Q p (allBlocks c) h))
 
@@ -63,7 +62,8 @@ both P Q [] h g = tt
 both P Q (x ∷ xs) h g = ((h .0, g .0), both P Q xs (h .1) (g .1))
 
 -- a block that the reader finds is a block of its packet
-found-block : (Q : Block → Type 0) (rs : List Request) (w : Walked) (k : ℕ) (b : ReportBlock) → All Q (blocksRead rs w) → located w k ≡ answer.Found b → Q (blockRead rs b)
+found-block : (Q : CutBlock → Type 0) (rs : List Request) (w : Walked) (k : ℕ) (b : ReportBlock)
+    → All Q (blocksRead rs w) → located w k ≡ answer.Found b → Q (blockRead rs b)
 found-block Q rs (stopped e) k b h f = never (cc)
 found-block Q rs (walked bs) k b h f = in-list bs k h f
   where
@@ -73,7 +73,7 @@ found-block Q rs (walked bs) k b h f = in-list bs k h f
     in-list (x ∷ bs) (suc k) h f = in-list bs k (h .1) f
 
 module _ (P : ℕ → ℕ → Type 0) (bound : (ssrc s : ℕ) → P ssrc s → s < 65536) (limit : ℕ) (rs : List Request) (g : OfRequests P rs) where
-  abbrev InRequest : Block → Type 0
+  abbrev InRequest : CutBlock → Type 0
   InRequest b = (b .request < length rs) × Each (P (streamOf rs (b .request))) b
 
   at-number : (ssrc begin count j : ℕ) → All (P ssrc) (numbersFrom begin count) → j < count → P ssrc ((begin + j) % 65536)
@@ -96,5 +96,5 @@ module _ (P : ℕ → ℕ → Type 0) (bound : (ssrc s : ℕ) → P ssrc s → s
   each-told ps cuts =
       over ps
       (all-packets InRequest (cuttingRead rs ps)
-      (both (λ (b : Block). b .request < length rs) (λ (b : Block). Each (P (streamOf rs (b .request))) b) (allBlocks (cuttingRead rs ps)) (cuts .known)
+      (both (λ (b : CutBlock). b .request < length rs) (λ (b : CutBlock). Each (P (streamOf rs (b .request))) b) (allBlocks (cuttingRead rs ps)) (cuts .known)
       (each-of-cutting P limit rs (cuttingRead rs ps) cuts g)))

@@ -3,25 +3,27 @@ use Prim.Native.Nat.{ℕ, zero, suc, _+_, _-_, _*_, _/_, _%_, _≤_, _<_}
 use mathlib.Core.Path.{_≡_, refl, sym, ap, _∙_}
 use mathlib.Core.List.{List}
 use native.Mathlib.Omega.{arith}
-use Rattle.refusal.proofs.Cases.{split-le}
-use Rattle.refusal.specs.Lists.{All}
+use Rattle.lists.specs.All.{All}
+use Rattle.lists.proofs.Cases.{split-le}
 use Rattle.window.specs.Number.{distanceOf}
-use lib.ListN.{getD}
-use Rattle.cutting.specs.Cutting.{following, numbersFrom}
-use Rattle.store.specs.Cell.{readCell, cellAt}
-use Rattle.store.specs.declared.Holding.{Holding}
+use Rattle.window.specs.Ring.{cellsOfAPlace}
+use Rattle.places.specs.Window.{cellAt}
+use Rattle.places.specs.declared.Holding.{Holding}
+use Rattle.cells.specs.Cell.{readCell}
 use Rattle.history.specs.Meaning.{Entry, cellBy}
 use Rattle.history.specs.Reading.{Holds}
-use Rattle.feedback.specs.Seen.{fullNumber, Full}
+use Rattle.cutting.specs.Cutting.{following, numbersFrom}
+use Rattle.feedback.specs.Seen.{fullNumber, StandsFor}
+use lib.ListN.{getD}
 
-full-at : (top s n k d : ℕ) → s < 65536 → n ≡ top - d → d < 2048 → d ≤ top → n ≡ 65536 * k + s → Full top s n
+full-at : (top s n k d : ℕ) → s < 65536 → n ≡ top - d → d < cellsOfAPlace → d ≤ top → n ≡ 65536 * k + s → StandsFor top s n
 full-at top s n k d small e near within at = record { most = omega arith; least = omega arith; slot = omega arith; low = omega arith }
 
 -- the number is one of the window, and stands for its full number there
-pub full-number : (top s : ℕ) → 65536 ≤ top → s < 65536 → distanceOf (top % 65536) s < 2048 → Full top s (fullNumber top s)
+pub full-number : (top s : ℕ) → 65536 ≤ top → s < 65536 → distanceOf (top % 65536) s < cellsOfAPlace → StandsFor top s (fullNumber top s)
 full-number top s big small near = by-parts (top / 65536) (top % 65536) refl (omega arith) (omega arith) (omega arith)
   where
-    by-parts : (q t : ℕ) → top % 65536 ≡ t → top ≡ 65536 * q + t → t < 65536 → 0 < q → Full top s (fullNumber top s)
+    by-parts : (q t : ℕ) → top % 65536 ≡ t → top ≡ 65536 * q + t → t < 65536 → 0 < q → StandsFor top s (fullNumber top s)
     by-parts q t m e lt one =
         split-le s t
         (λ h. let d : distanceOf (top % 65536) s ≡ t - s = rw m (omega arith) in
@@ -31,10 +33,10 @@ full-number top s big small near = by-parts (top / 65536) (top % 65536) refl (om
 
 -- the cell of a number of the window reads as the entries of its full number say
 pub cell-in-window : (cells : List ℕ) (p : ℕ) (h : Holding) (ssrc top : ℕ) (es : List Entry) (s : ℕ) → Holds cells p h ssrc top es
-    → s < 65536 → distanceOf (top % 65536) s < 2048 → readCell (cellAt cells p s) ≡ cellBy es (fullNumber top s)
+    → s < 65536 → distanceOf (top % 65536) s < cellsOfAPlace → readCell (cellAt cells p s) ≡ cellBy es (fullNumber top s)
 cell-in-window cells p h ssrc top es s held small near =
-    let f : Full top s (fullNumber top s) = full-number top s (held .begun) small near in
-    ap (λ (m : ℕ). readCell (getD cells (2048 * p + m) 0)) (sym (f .slot)) ∙ held .window (fullNumber top s) (f .most) (f .least)
+    let f : StandsFor top s (fullNumber top s) = full-number top s (held .begun) small near in
+    ap (λ (m : ℕ). readCell (getD cells (cellsOfAPlace * p + m) 0)) (sym (f .slot)) ∙ held .window (fullNumber top s) (f .most) (f .least)
 
 -- ---- ranges in a window
 
@@ -45,8 +47,9 @@ closer highest s h b far =
     (λ l. let f : following s ≡ s + 1 = omega arith in rw f (omega arith))
 
 -- the numbers of a range in the window are numbers of the window
-pub range-in-window : (highest begin count : ℕ) → highest < 65536 → begin < 65536 → distanceOf highest begin < 2048 → count ≤ distanceOf highest begin + 1
-    → All (λ (s : ℕ). (s < 65536) × (distanceOf highest s < 2048)) (numbersFrom begin count)
+pub range-in-window : (highest begin count : ℕ) → highest < 65536 → begin < 65536
+    → distanceOf highest begin < cellsOfAPlace → count ≤ distanceOf highest begin + 1
+    → All (λ (s : ℕ). (s < 65536) × (distanceOf highest s < cellsOfAPlace)) (numbersFrom begin count)
 range-in-window highest begin zero h b near fits = tt
 range-in-window highest begin (suc zero) h b near fits = ((b, near), tt)
 range-in-window highest begin (suc (suc k)) h b near fits =

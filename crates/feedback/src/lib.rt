@@ -1,1 +1,1 @@
-// Theorems alone: what a reader of written feedback sees of the calls that were made.
+// Theorems alone, in proofs/: what a reader of written feedback sees of the calls that were made.

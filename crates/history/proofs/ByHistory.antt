@@ -9,37 +9,40 @@ use native.Mathlib.Decide.{decLe}
 use borrow.Author.Tests.{lt-ltb, eq-eqb}
 use lib.Dec.{eqb}
 use lib.ListN.{length}
-use Rattle.refusal.specs.Lists.{All}
+use Rattle.lists.specs.All.{All}
+use Rattle.lists.specs.declared.Found.{Found}
+use Rattle.lists.proofs.First.{first-true}
+use Rattle.lists.proofs.All.{all-append}
+use Rattle.lists.proofs.Cases.{never}
 use Rattle.metric.specs.declared.Time.{Time}
-use Rattle.window.specs.declared.Found.{Found}
-use Rattle.window.specs.declared.Found.the-variants.{At, Nothing}
-use Rattle.window.proofs.First.{first-true}
-use Rattle.store.specs.Place.{placeAt, isStream, findOf}
-use Rattle.store.specs.Cell.{readCell, cellAt, metricAt}
-use Rattle.store.specs.Store.{placeOf}
-use Rattle.store.specs.declared.Holding.the-variants.{Held}
+use Rattle.places.specs.Place.{placeAt, isStream, findOf}
+use Rattle.places.specs.Window.{cellAt}
+use Rattle.cells.specs.Cell.{readCell}
+use Rattle.store.specs.Store.{placeOf, cellMetric}
 use Rattle.history.specs.Calls.{Call, arrive, forget, Answer, Store, storeRun, storeAnswers, Accepted, acceptedOf, isDone, heard, heardAll, CallInRange}
 use Rattle.history.specs.Meaning.{Entry, fullOf, firstFull, entryOf, countFrom, topFrom, entriesOf, topOf, AsArrivals, EntryInRange, AcceptedInRange}
 use Rattle.history.specs.Model.{Place, free, names, at, modelPlace, modelStep, modelAnswer, modelRun, modelAnswers, vacant}
 use Rattle.history.specs.Reading.{Holds, Reads, Fresh}
 use Rattle.history.proofs.Numbers.{full-low}
-use Rattle.history.proofs.Copies.{all-append}
 use Rattle.history.proofs.Places.{named, find-same}
 use Rattle.history.proofs.Filled.{as-arrivals}
 use Rattle.history.proofs.Simulation.{place-alike, simulates, fresh-reads}
 use Rattle.history.proofs.Once.{foundIn}
 use Rattle.history.proofs.Heard.{placeBy, Kept, run-kept, vacant-kept}
-
-zero-is-one : _≡_ {A = ℕ} 0 1 → ⊥
-zero-is-one q = omega arith
+use Rattle.metric.specs.Metric.{congested}
+use Rattle.window.specs.Number.{sequenceNumbers}
+use Rattle.window.specs.Ring.{cellsOfAPlace}
+use Rattle.lists.specs.declared.Found.the-variants.{At, Nothing}
+use Rattle.places.specs.declared.Holding.the-variants.{Held}
 
 -- ---- accepted arrivals and their full numbers
 -- an accepted arrival has a mark of 0 to 3
-done-mark : (ps : List Place) (x number mark : ℕ) (time : Time) → isDone (modelAnswer ps (arrive x number mark time)) ≡ true → mark ≤ 3
+done-mark : (ps : List Place) (x number mark : ℕ) (time : Time) → isDone (modelAnswer ps (arrive x number mark time)) ≡ true → mark ≤ congested
 done-mark ps x number mark time d =
-    elim (decLe mark 3) [ yes m ↦ m | no m ↦ absurd (false≢true (rw (lt-ltb 3 mark (omega arith)) at d)) ]
+    elim (decLe mark congested) [ yes m ↦ m | no m ↦ absurd (false≢true (rw (lt-ltb congested mark (omega arith)) at d)) ]
 
-heard-range : (y : ℕ) (l : List Accepted) (ps : List Place) (c : Call) → CallInRange c → All AcceptedInRange l → All AcceptedInRange (heard y l c (isDone (modelAnswer ps c)))
+heard-range : (y : ℕ) (l : List Accepted) (ps : List Place) (c : Call) → CallInRange c → All AcceptedInRange l
+    → All AcceptedInRange (heard y l c (isDone (modelAnswer ps c)))
 heard-range y l ps (arrive x number mark time) r h =
     picked (eqb x y) (isDone (modelAnswer ps (arrive x number mark time))) (λ d. (r .1 .0, (done-mark ps x number mark time d, r .1 .1)))
   where
@@ -54,21 +57,23 @@ heard-range y l ps (forget x) r h = picked (eqb x y && isDone (modelAnswer ps (f
     picked true = tt
     picked false = h
 
-run-range : (y : ℕ) (cs : List Call) (ps : List Place) (l : List Accepted) → All CallInRange cs → All AcceptedInRange l → All AcceptedInRange (heardAll y l cs (modelAnswers ps cs))
+run-range : (y : ℕ) (cs : List Call) (ps : List Place) (l : List Accepted) → All CallInRange cs
+    → All AcceptedInRange l → All AcceptedInRange (heardAll y l cs (modelAnswers ps cs))
 run-range y [] ps l r h = h
 run-range y (c ∷ cs) ps l r h = run-range y cs (modelStep ps c) (heard y l c (isDone (modelAnswer ps c))) (r .1) (heard-range y l ps c (r .0) h)
 
 -- the low 16 bits of the full numbers are the sequence numbers of the arrivals
-count-numbers : (l : List Accepted) (top : ℕ) → 65536 ≤ top → All AcceptedInRange l → map (λ (e : Entry). e .full % 65536) (countFrom top l) ≡ map (λ (a : Accepted). a .number) l
+count-numbers : (l : List Accepted) (top : ℕ) → sequenceNumbers ≤ top → All AcceptedInRange l
+    → map (λ (e : Entry). e .full % sequenceNumbers) (countFrom top l) ≡ map (λ (a : Accepted). a .number) l
 unfolding countFrom
 count-numbers [] top g h = refl
 count-numbers (a ∷ l) top g h = rw (full-low top (a .number) g (h .0 .0), count-numbers l (max top (fullOf top (a .number))) (omega arith) (h .1))
 
-pub numbers-kept : (l : List Accepted) → All AcceptedInRange l → map (λ (e : Entry). e .full % 65536) (entriesOf l) ≡ map (λ (a : Accepted). a .number) l
+pub numbers-kept : (l : List Accepted) → All AcceptedInRange l → map (λ (e : Entry). e .full % sequenceNumbers) (entriesOf l) ≡ map (λ (a : Accepted). a .number) l
 numbers-kept [] h = refl
 numbers-kept (a ∷ l) h =
-    let e : (65536 + a .number) % 65536 ≡ a .number = omega (arith, h .0 .0) in
-    rw (e, count-numbers l (65536 + a .number) (omega arith) (h .1))
+    let e : (sequenceNumbers + a .number) % sequenceNumbers ≡ a .number = omega (arith, h .0 .0) in
+    rw (e, count-numbers l (sequenceNumbers + a .number) (omega arith) (h .1))
 
 -- the highest full number is that of an arrival
 abbrev Attained : ℕ → ℕ → List Entry → Type 0
@@ -89,7 +94,8 @@ count-attained (a ∷ l) top = ⊎-elim (λ h. here h) (λ h. inr (h .0, (List·
 
 pub highest-attained : (a : Accepted) (l : List Accepted) → (e : Entry) × (List·Memᴰ e (entriesOf (a ∷ l)) × (e .full ≡ topOf (a ∷ l)))
 highest-attained a l =
-    ⊎-elim (λ h. (entryOf (firstFull (a .number)) a, (List·Memᴰ·head refl, sym h))) (λ h. (h .0, (List·Memᴰ·tail (h .1 .0), h .1 .1))) (count-attained l (firstFull (a .number)))
+    ⊎-elim (λ h. (entryOf (firstFull (a .number)) a, (List·Memᴰ·head refl, sym h)))
+    (λ h. (h .0, (List·Memᴰ·tail (h .1 .0), h .1 .1))) (count-attained l (firstFull (a .number)))
 
 -- ---- every list of calls to a fresh store
 module _ (st : Store) (new : Fresh st) (cs : List Call) (range : All CallInRange cs) where
@@ -111,7 +117,8 @@ module _ (st : Store) (new : Fresh st) (cs : List Call) (range : All CallInRange
   same-place k = place-alike (storeRun st cs) model same-reading k
 
   kept : Kept model history
-  kept = subst (λ (xs : List Answer). Kept model (λ (y : ℕ). acceptedOf y cs xs)) (sym same-answers) (run-kept cs (vacant (length (st .places))) (λ (y : ℕ). []) (vacant-kept (length (st .places))))
+  kept = subst (λ (xs : List Answer). Kept model (λ (y : ℕ). acceptedOf y cs xs)) (sym same-answers)
+      (run-kept cs (vacant (length (st .places))) (λ (y : ℕ). []) (vacant-kept (length (st .places))))
 
   -- no SSRC in two places
   pub no-ssrc-twice : (ssrc p q h g : ℕ) → placeAt (storeRun st cs .places) p ≡ Held ssrc h → placeAt (storeRun st cs .places) q ≡ Held ssrc g → p ≡ q
@@ -133,7 +140,7 @@ module _ (st : Store) (new : Fresh st) (cs : List Call) (range : All CallInRange
       where
         none : (l : List Accepted) → free ≡ placeBy ssrc l → l ≡ []
         none [] h = refl
-        none (a ∷ l) h = absurd (zero-is-one (let z : _≡_ {A = ℕ} 0 1 = cc in z))
+        none (a ∷ l) h = never (cc)
 
     pub accepted-in-range : All AcceptedInRange (history ssrc)
     accepted-in-range = rw same-answers (run-range ssrc cs (vacant (length (st .places))) [] range tt)
@@ -143,13 +150,14 @@ module _ (st : Store) (new : Fresh st) (cs : List Call) (range : All CallInRange
       pub by-history : Holds (storeRun st cs .cells) p (placeAt (storeRun st cs .places) p) ssrc (topOf (history ssrc)) (entriesOf (history ssrc))
       by-history = holds (history ssrc) (found-by (At p) found)
         where
-          holds : (l : List Accepted) → at model p ≡ placeBy ssrc l → Holds (storeRun st cs .cells) p (placeAt (storeRun st cs .places) p) ssrc (topOf l) (entriesOf l)
+          holds : (l : List Accepted) → at model p ≡ placeBy ssrc l
+              → Holds (storeRun st cs .cells) p (placeAt (storeRun st cs .places) p) ssrc (topOf l) (entriesOf l)
           holds [] e =
               let t = first-true (λ (k : ℕ). names ssrc (at model k)) (length model) 0 p (sym (find-same (storeRun st cs) model same-reading ssrc) ∙ found) in
               absurd (false≢true (sym (ap (names ssrc) e) ∙ t))
           holds (a ∷ l) e = rw e at (same-reading .each p)
 
-      pub cell-by-history : (n : ℕ) → n ≤ topOf (history ssrc) → topOf (history ssrc) < n + 2048
+      pub cell-by-history : (n : ℕ) → n ≤ topOf (history ssrc) → topOf (history ssrc) < n + cellsOfAPlace
           → AsArrivals (readCell (cellAt (storeRun st cs .cells) p n)) (entriesOf (history ssrc)) n
       cell-by-history n a b = rw (by-history .window n a b) (as-arrivals (entriesOf (history ssrc)) n)
 
@@ -158,16 +166,18 @@ module _ (st : Store) (new : Fresh st) (cs : List Call) (range : All CallInRange
 
 -- ---- a stream by itself
 -- each slot of the ring is that of one number of the window
-slot-number : (top s : ℕ) → 2048 ≤ top → (n : ℕ) × ((n ≤ top) × ((top < n + 2048) × (n % 2048 ≡ s % 2048)))
-slot-number top s g = (top - (top + 2048 - s % 2048) % 2048, (omega arith, (omega arith, omega arith)))
+slot-number : (top s : ℕ) → cellsOfAPlace ≤ top → (n : ℕ) × ((n ≤ top) × ((top < n + cellsOfAPlace) × (n % cellsOfAPlace ≡ s % cellsOfAPlace)))
+slot-number top s g = (top - (top + cellsOfAPlace - s % cellsOfAPlace) % cellsOfAPlace, (omega arith, (omega arith, omega arith)))
 
 module _ (st st′ : Store) (new : Fresh st) (new′ : Fresh st′) (cs cs′ : List Call) (range : All CallInRange cs) (range′ : All CallInRange cs′)
     (ssrc p p′ : ℕ) (found : findOf (storeRun st cs .places) ssrc ≡ At p) (found′ : findOf (storeRun st′ cs′ .places) ssrc ≡ At p′)
     (same : acceptedOf ssrc cs (storeAnswers st cs) ≡ acceptedOf ssrc cs′ (storeAnswers st′ cs′)) where
-  H : Holds (storeRun st cs .cells) p (placeAt (storeRun st cs .places) p) ssrc (topOf (acceptedOf ssrc cs (storeAnswers st cs))) (entriesOf (acceptedOf ssrc cs (storeAnswers st cs)))
+  H : Holds (storeRun st cs .cells) p (placeAt (storeRun st cs .places) p) ssrc
+      (topOf (acceptedOf ssrc cs (storeAnswers st cs))) (entriesOf (acceptedOf ssrc cs (storeAnswers st cs)))
   H = by-history st new cs range ssrc p found
 
-  H′ : Holds (storeRun st′ cs′ .cells) p′ (placeAt (storeRun st′ cs′ .places) p′) ssrc (topOf (acceptedOf ssrc cs (storeAnswers st cs))) (entriesOf (acceptedOf ssrc cs (storeAnswers st cs)))
+  H′ : Holds (storeRun st′ cs′ .cells) p′ (placeAt (storeRun st′ cs′ .places) p′) ssrc
+      (topOf (acceptedOf ssrc cs (storeAnswers st cs))) (entriesOf (acceptedOf ssrc cs (storeAnswers st cs)))
   H′ = rw same (by-history st′ new′ cs′ range′ ssrc p′ found′)
 
   -- the same SSRC and highest number, wherever the stream stands
@@ -175,8 +185,8 @@ module _ (st st′ : Store) (new : Fresh st) (new′ : Fresh st′) (cs cs′ : 
   same-highest = H .place ∙ sym (H′ .place)
 
   -- and the same metric of every number at the same RTS, whatever came in for other streams
-  pub same-metrics : (rts number : ℕ) → metricAt (storeRun st cs .cells) rts p number ≡ metricAt (storeRun st′ cs′ .cells) rts p′ number
-  unfolding metricAt
+  pub same-metrics : (rts number : ℕ) → cellMetric (storeRun st cs .cells) rts p number ≡ cellMetric (storeRun st′ cs′ .cells) rts p′ number
+  unfolding cellMetric
   same-metrics rts number =
       let g = H .begun in
       let n = slot-number (topOf (acceptedOf ssrc cs (storeAnswers st cs))) number (omega arith) in

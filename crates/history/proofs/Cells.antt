@@ -8,62 +8,65 @@ use borrow.Author.Tests.{lt-ltb, le-ltb}
 use lib.ListN.{length, getD, length-set}
 use lib.Seq.{getD-set-same, getD-set-other}
 use Rattle.metric.specs.declared.Time.{Time}
-use Rattle.metric.specs.declared.Time.the-variants.{Unknown, Known}
 use Rattle.metric.specs.declared.Cell.{Cell}
-use Rattle.metric.specs.declared.Cell.the-variants.{Empty, Filled}
+use Rattle.metric.specs.Metric.{TimeInRange, congested, times}
+use Rattle.window.specs.Ring.{cellsOfAPlace}
 use Rattle.window.proofs.Ring.{emptied-kept, emptied-gone, length-emptied}
-use Rattle.store.specs.Cell.{timeOf, readCell, filledWord, foldedMark, wordAfter, cellAt, entered, advanced}
-use Rattle.store.proofs.Cells.{folded-small, after-empty, after-filled}
-use Rattle.history.specs.Calls.{TimeInRange}
+use Rattle.places.specs.Window.{cellAt, newestEmptied, updated}
+use Rattle.cells.specs.Cell.{wordTime, readCell, filledWord, foldedMark, wordAfter, filledFrom, kinds, timedFrom}
+use Rattle.cells.proofs.Words.{folded-small, after-empty, after-filled}
 use Rattle.history.specs.Meaning.{Entry, cellBy}
 use Rattle.history.proofs.Numbers.{same-slot, apart, counted, uncounted, other-place}
 use Rattle.history.proofs.Copies.{afterCopy, by-same, by-other}
+use Rattle.window.specs.Number.{sequenceNumbers}
+use Rattle.metric.specs.declared.Time.the-variants.{Unknown, Known}
+use Rattle.metric.specs.declared.Cell.the-variants.{Empty, Filled}
 
 -- ---- one cell
 module _ (word : ℕ) where
-  read-empty : word % 16 < 8 → readCell word ≡ Empty
+  read-empty : word % kinds < filledFrom → readCell word ≡ Empty
   unfolding readCell
-  read-empty l = simp (lt-ltb (word % 16) 8 l)
+  read-empty l = simp (lt-ltb (word % kinds) filledFrom l)
 
-  read-filled : 8 ≤ word % 16 → readCell word ≡ Filled (word % 4) (timeOf word)
+  read-filled : filledFrom ≤ word % kinds → readCell word ≡ Filled (word % 4) (wordTime word)
   unfolding readCell
-  read-filled l = simp (le-ltb (word % 16) 8 l)
+  read-filled l = simp (le-ltb (word % kinds) filledFrom l)
 
-  time-unknown : word % 16 < 12 → timeOf word ≡ Unknown
-  unfolding timeOf
-  time-unknown l = simp (lt-ltb (word % 16) 12 l)
+  time-unknown : word % kinds < timedFrom → wordTime word ≡ Unknown
+  unfolding wordTime
+  time-unknown l = simp (lt-ltb (word % kinds) timedFrom l)
 
-  time-known : 12 ≤ word % 16 → timeOf word ≡ Known (word / 16 % 4294967296)
-  unfolding timeOf
-  time-known l = simp (le-ltb (word % 16) 12 l)
+  time-known : timedFrom ≤ word % kinds → wordTime word ≡ Known (word / kinds % times)
+  unfolding wordTime
+  time-known l = simp (le-ltb (word % kinds) timedFrom l)
 
 pub read-zero : readCell 0 ≡ Empty
 read-zero = read-empty 0 (omega arith)
 
-pub read-word : (mark : ℕ) (time : Time) → mark ≤ 3 → TimeInRange time → readCell (filledWord mark time) ≡ Filled mark time
+pub read-word : (mark : ℕ) (time : Time) → mark ≤ congested → TimeInRange time → readCell (filledWord mark time) ≡ Filled mark time
 read-word mark Unknown m r =
-    let a : (8 + mark) % 4 ≡ mark = omega arith in
-    rw (read-filled (8 + mark) (omega arith), time-unknown (8 + mark) (omega arith), a)
+    let a : (filledFrom + mark) % 4 ≡ mark = omega arith in
+    rw (read-filled (filledFrom + mark) (omega arith), time-unknown (filledFrom + mark) (omega arith), a)
 read-word mark (Known t) m r =
-    let a : (12 + mark + 16 * t) % 4 ≡ mark = omega arith in
-    let q : (12 + mark + 16 * t) / 16 ≡ t = omega arith in
-    let b : t % 4294967296 ≡ t = omega arith in
-    rw (read-filled (12 + mark + 16 * t) (omega arith), time-known (12 + mark + 16 * t) (omega arith), a, q, b)
+    let a : (timedFrom + mark + kinds * t) % 4 ≡ mark = omega arith in
+    let q : (timedFrom + mark + kinds * t) / kinds ≡ t = omega arith in
+    let b : t % times ≡ t = omega arith in
+    rw (read-filled (timedFrom + mark + kinds * t) (omega arith), time-known (timedFrom + mark + kinds * t) (omega arith), a, q, b)
 
 -- another mark leaves the time
-read-marked : (word mark : ℕ) → 8 ≤ word % 16 → mark < 4 → readCell (word / 4 * 4 + mark) ≡ Filled mark (timeOf word)
+read-marked : (word mark : ℕ) → filledFrom ≤ word % kinds → mark < 4 → readCell (word / 4 * 4 + mark) ≡ Filled mark (wordTime word)
 read-marked word mark l m =
     let a : (word / 4 * 4 + mark) % 4 ≡ mark = omega arith in
-    let d : (word / 4 * 4 + mark) / 16 ≡ word / 16 = omega arith in
-    elim (decLt (word % 16) 12) [
+    let d : (word / 4 * 4 + mark) / kinds ≡ word / kinds = omega arith in
+    elim (decLt (word % kinds) timedFrom) [
       | yes k ↦ rw (read-filled (word / 4 * 4 + mark) (omega arith), time-unknown (word / 4 * 4 + mark) (omega arith), time-unknown word k, a)
       | no k ↦ rw (read-filled (word / 4 * 4 + mark) (omega arith), time-known (word / 4 * 4 + mark) (omega arith), time-known word (omega arith), a, d)
     ]
 
 -- a word of any content after an arrival
-pub read-after : (word mark : ℕ) (time : Time) → mark ≤ 3 → TimeInRange time → readCell (wordAfter word mark time) ≡ afterCopy (readCell word) mark time
+pub read-after : (word mark : ℕ) (time : Time) → mark ≤ congested → TimeInRange time → readCell (wordAfter mark time word) ≡ afterCopy (readCell word) mark time
 read-after word mark time m r =
-    elim (decLt (word % 16) 8) [
+    elim (decLt (word % kinds) filledFrom) [
       | yes l ↦ rw (after-empty word mark time l, read-empty word l) (read-word mark time m r)
       | no l ↦
           rw (after-filled word mark time (omega arith), read-filled word (omega arith))
@@ -72,50 +75,55 @@ read-after word mark time m r =
 
 -- ---- the cells of a place
 module _ (cells : List ℕ) (k number mark : ℕ) (time : Time) where
-  pub length-entered : length (entered cells k number mark time) ≡ length cells
-  unfolding entered
+  pub length-entered : length (updated (wordAfter mark time) cells k number) ≡ length cells
+  unfolding updated
   length-entered = rw length-set
 
-  entered-same : (m : ℕ) → m % 2048 ≡ number % 2048 → 2048 * k + 2048 ≤ length cells
-      → cellAt (entered cells k number mark time) k m ≡ wordAfter (cellAt cells k m) mark time
-  unfolding entered
-  entered-same m e room = rw e (getD-set-same cells (2048 * k + number % 2048) _ 0 (omega arith))
+  entered-same : (m : ℕ) → m % cellsOfAPlace ≡ number % cellsOfAPlace → cellsOfAPlace * k + cellsOfAPlace ≤ length cells
+      → cellAt (updated (wordAfter mark time) cells k number) k m ≡ wordAfter mark time (cellAt cells k m)
+  unfolding updated
+  entered-same m e room = rw e (getD-set-same cells (cellsOfAPlace * k + number % cellsOfAPlace) _ 0 (omega arith))
 
-  entered-other : (j : ℕ) → (j ≡ 2048 * k + number % 2048 → ⊥) → getD (entered cells k number mark time) j 0 ≡ getD cells j 0
-  unfolding entered
-  entered-other j n = getD-set-other cells (2048 * k + number % 2048) j _ 0 n
+  entered-other : (j : ℕ) → (j ≡ cellsOfAPlace * k + number % cellsOfAPlace → ⊥) → getD (updated (wordAfter mark time) cells k number) j 0 ≡ getD cells j 0
+  unfolding updated
+  entered-other j n = getD-set-other cells (cellsOfAPlace * k + number % cellsOfAPlace) j _ 0 n
 
   -- those of another place stay
-  pub entered-away : (q m : ℕ) → (q ≡ k → ⊥) → cellAt (entered cells k number mark time) q m ≡ cellAt cells q m
-  entered-away q m n = entered-other (2048 * q + m % 2048) (other-place k q (m % 2048) (number % 2048) (omega arith) (omega arith) n)
+  pub entered-away : (q m : ℕ) → (q ≡ k → ⊥) → cellAt (updated (wordAfter mark time) cells k number) q m ≡ cellAt cells q m
+  entered-away q m n =
+      entered-other (cellsOfAPlace * q + m % cellsOfAPlace) (other-place k q (m % cellsOfAPlace) (number % cellsOfAPlace) (omega arith) (omega arith) n)
 
 module _ (cells : List ℕ) (k number n : ℕ) where
-  pub length-advanced : length (advanced cells k number n) ≡ length cells
-  unfolding advanced
-  length-advanced = length-emptied n cells (2048 * k) (number + 2049 - n)
+  pub length-advanced : length (newestEmptied cells k number n) ≡ length cells
+  unfolding newestEmptied
+  length-advanced = length-emptied n cells (cellsOfAPlace * k) (number + (cellsOfAPlace + 1) - n)
 
-  pub advanced-away : (q m : ℕ) → (q ≡ k → ⊥) → cellAt (advanced cells k number n) q m ≡ cellAt cells q m
-  unfolding advanced
+  pub advanced-away : (q m : ℕ) → (q ≡ k → ⊥) → cellAt (newestEmptied cells k number n) q m ≡ cellAt cells q m
+  unfolding newestEmptied
   advanced-away q m a =
-      emptied-kept n cells (2048 * k) (number + 2049 - n) (2048 * q + m % 2048)
-      (λ i l. other-place k q (m % 2048) ((number + 2049 - n + i) % 2048) (omega arith) (omega arith) a)
+      emptied-kept n cells (cellsOfAPlace * k) (number + (cellsOfAPlace + 1) - n) (cellsOfAPlace * q + m % cellsOfAPlace)
+      (λ i l. other-place k q (m % cellsOfAPlace) ((number + (cellsOfAPlace + 1) - n + i) % cellsOfAPlace) (omega arith) (omega arith) a)
 
   -- full is the highest number now, and n numbers are new to its window
-  module _ (full : ℕ) (low : full % 65536 ≡ number) (few : n ≤ 2048) (room : 2048 * k + 2048 ≤ length cells) (m : ℕ) (le : m ≤ full) where
-    advanced-new : full < m + n → cellAt (advanced cells k number n) k m ≡ 0
-    unfolding advanced
+  module _ (full : ℕ) (low : full % sequenceNumbers ≡ number) (few : n ≤ cellsOfAPlace)
+      (room : cellsOfAPlace * k + cellsOfAPlace ≤ length cells) (m : ℕ) (le : m ≤ full) where
+    advanced-new : full < m + n → cellAt (newestEmptied cells k number n) k m ≡ 0
+    unfolding newestEmptied
     advanced-new l =
         let s = counted full number m n low few le l in
-        emptied-gone n (m + n - (full + 1)) cells (2048 * k) (number + 2049 - n) (2048 * k + m % 2048) (omega arith) (omega arith) (omega arith)
+        emptied-gone n (m + n - (full + 1)) cells (cellsOfAPlace * k) (number + (cellsOfAPlace + 1) - n)
+        (cellsOfAPlace * k + m % cellsOfAPlace) (omega arith) (omega arith) (omega arith)
 
-    advanced-old : m + n ≤ full → full < m + 2048 → cellAt (advanced cells k number n) k m ≡ cellAt cells k m
-    unfolding advanced
+    advanced-old : m + n ≤ full → full < m + cellsOfAPlace → cellAt (newestEmptied cells k number n) k m ≡ cellAt cells k m
+    unfolding newestEmptied
     advanced-old l h =
-        emptied-kept n cells (2048 * k) (number + 2049 - n) (2048 * k + m % 2048) (λ i b e. uncounted full number m n i low few l h b (omega arith))
+        emptied-kept n cells (cellsOfAPlace * k) (number + (cellsOfAPlace + 1) - n) (cellsOfAPlace * k + m % cellsOfAPlace)
+        (λ i b e. uncounted full number m n i low few l h b (omega arith))
 
     -- the window after the emptying, before the arrival is entered: the numbers that stay read as before, and the new ones have no arrival
-    pub advanced-reads : (es : List Entry) → full < m + 2048 → (m + n ≤ full → readCell (cellAt cells k m) ≡ cellBy es m) → (full < m + n → cellBy es m ≡ Empty)
-        → readCell (cellAt (advanced cells k number n) k m) ≡ cellBy es m
+    pub advanced-reads : (es : List Entry) → full < m + cellsOfAPlace → (m + n ≤ full → readCell (cellAt cells k m) ≡ cellBy es m)
+        → (full < m + n → cellBy es m ≡ Empty)
+        → readCell (cellAt (newestEmptied cells k number n) k m) ≡ cellBy es m
     advanced-reads es h old new =
         elim (decLe (m + n) full) [
           | yes l ↦ ap readCell (advanced-old l h) ∙ old l
@@ -126,20 +134,23 @@ module _ (cells : List ℕ) (k number n : ℕ) where
 
 -- an arrival of a number of the window, entered where the window reads as the entries before it say
 pub entered-reads : (cells : List ℕ) (k top number : ℕ) (es : List Entry) (e : Entry)
-    → e .full % 65536 ≡ number → e .full ≤ top → top < e .full + 2048 → e .mark ≤ 3 → TimeInRange (e .time) → 2048 * k + 2048 ≤ length cells
-    → ((m : ℕ) → m ≤ top → top < m + 2048 → readCell (cellAt cells k m) ≡ cellBy es m)
-    → (m : ℕ) → m ≤ top → top < m + 2048 → readCell (cellAt (entered cells k number (e .mark) (e .time)) k m) ≡ cellBy (es ++ (e ∷ [])) m
+    → e .full % sequenceNumbers ≡ number → e .full ≤ top → top < e .full + cellsOfAPlace → e .mark ≤ congested
+    → TimeInRange (e .time) → cellsOfAPlace * k + cellsOfAPlace ≤ length cells
+    → ((m : ℕ) → m ≤ top → top < m + cellsOfAPlace → readCell (cellAt cells k m) ≡ cellBy es m)
+    → (m : ℕ) → m ≤ top → top < m + cellsOfAPlace → readCell (cellAt (updated (wordAfter (e .mark) (e .time)) cells k number) k m) ≡ cellBy (es ++ (e ∷ [])) m
 entered-reads cells k top number es e low le lt mark time room before m mle mlt =
     elim (ℕ-discrete (e .full) m) [
       | yes q ↦
-          let s : m % 2048 ≡ number % 2048 = same-slot m number (rw (← q) low) in
+          let s : m % cellsOfAPlace ≡ number % cellsOfAPlace = same-slot m number (rw (← q) low) in
           ap readCell (entered-same cells k number (e .mark) (e .time) m s room)
           ∙ read-after (cellAt cells k m) (e .mark) (e .time) mark time
           ∙ ap (λ (c : Cell). afterCopy c (e .mark) (e .time)) (before m mle mlt)
           ∙ sym (by-same e m q es)
       | no q ↦
           let s = same-slot (e .full) number low in
-          ap readCell (entered-other cells k number (e .mark) (e .time) (2048 * k + m % 2048) (λ h. q (apart top (e .full) m le lt mle mlt (omega arith))))
+          ap readCell
+          (entered-other cells k number (e .mark) (e .time) (cellsOfAPlace * k + m % cellsOfAPlace)
+          (λ h. q (apart top (e .full) m le lt mle mlt (omega arith))))
           ∙ before m mle mlt
           ∙ sym (by-other e m q es)
     ]

@@ -7,12 +7,13 @@ use native.Mathlib.Omega.{arith}
 use native.Mathlib.Decide.{ℕ-discrete}
 use borrow.Author.Tests.{eq-eqb, ne-eqb}
 use lib.Dec.{eqb}
-use Rattle.refusal.specs.Lists.{All}
+use Rattle.lists.specs.All.{All}
 use Rattle.metric.specs.declared.Time.{Time}
 use Rattle.metric.specs.declared.Cell.{Cell}
-use Rattle.metric.specs.declared.Cell.the-variants.{Empty, Filled}
-use Rattle.store.specs.Cell.{foldedMark}
+use Rattle.cells.specs.Cell.{foldedMark}
 use Rattle.history.specs.Meaning.{Entry, copiesOf, anyCE, cellOf, cellBy}
+use Rattle.metric.specs.Metric.{congested}
+use Rattle.metric.specs.declared.Cell.the-variants.{Empty, Filled}
 
 -- an arrival at an empty cell, and a copy
 abbrev pub afterCopy : Cell → ℕ → Time → Cell
@@ -23,26 +24,26 @@ or-assoc : (a b c : Bool) → (a || (b || c)) ≡ ((a || b) || c)
 or-assoc true b c = refl
 or-assoc false b c = refl
 
-any-append : (cs : List Entry) (e : Entry) → anyCE (cs ++ (e ∷ [])) ≡ (anyCE cs || eqb (e .mark) 3)
-any-append [] e = last (eqb (e .mark) 3)
+any-append : (cs : List Entry) (e : Entry) → anyCE (cs ++ (e ∷ [])) ≡ (anyCE cs || eqb (e .mark) congested)
+any-append [] e = last (eqb (e .mark) congested)
   where
     last : (b : Bool) → (b || false) ≡ b
     last true = refl
     last false = refl
 any-append (c ∷ cs) e = rw (any-append cs e, or-assoc)
 
-mark-fold : (b : Bool) (held copy : ℕ) → cond (b || eqb copy 3) 3 held ≡ foldedMark (cond b 3 held) copy
+mark-fold : (b : Bool) (held copy : ℕ) → cond (b || eqb copy congested) congested held ≡ foldedMark (cond b congested held) copy
 unfolding foldedMark
-mark-fold true held copy = elim (ℕ-discrete copy 3) [ yes e ↦ simp (eq-eqb copy 3 e) | no e ↦ simp (ne-eqb copy 3 e) ]
+mark-fold true held copy = elim (ℕ-discrete copy congested) [ yes e ↦ simp (eq-eqb copy congested e) | no e ↦ simp (ne-eqb copy congested e) ]
 mark-fold false held copy = refl
 
 -- the first arrival's mark is its own
-mark-first : (mark : ℕ) → cond (eqb mark 3 || false) 3 mark ≡ mark
-mark-first mark = elim (ℕ-discrete mark 3) [ yes e ↦ simp (eq-eqb mark 3 e) (sym e) | no e ↦ simp (ne-eqb mark 3 e) ]
+mark-first : (mark : ℕ) → cond (eqb mark congested || false) congested mark ≡ mark
+mark-first mark = elim (ℕ-discrete mark congested) [ yes e ↦ simp (eq-eqb mark congested e) (sym e) | no e ↦ simp (ne-eqb mark congested e) ]
 
 pub cell-append : (cs : List Entry) (e : Entry) → cellOf (cs ++ (e ∷ [])) ≡ afterCopy (cellOf cs) (e .mark) (e .time)
 cell-append [] e = rw (mark-first (e .mark))
-cell-append (c ∷ cs) e = rw (any-append cs e, or-assoc, mark-fold (eqb (c .mark) 3 || anyCE cs) (c .mark) (e .mark))
+cell-append (c ∷ cs) e = rw (any-append cs e, or-assoc, mark-fold (eqb (c .mark) congested || anyCE cs) (c .mark) (e .mark))
 
 module _ (e : Entry) (n : ℕ) where
   copies-same : e .full ≡ n → (es : List Entry) → copiesOf (es ++ (e ∷ [])) n ≡ copiesOf es n ++ (e ∷ [])
@@ -79,13 +80,3 @@ copies-above top n (e ∷ es) h l =
 
 pub by-above : (top n : ℕ) (es : List Entry) → All (λ (e : Entry). e .full ≤ top) es → top < n → cellBy es n ≡ Empty
 by-above top n es h l = ap cellOf (copies-above top n es h l)
-
--- a property of all, and of one more
-module _ {A : Type 0} (P : A → Type 0) where
-  pub all-append : (es : List A) (e : A) → All P es → P e → All P (es ++ (e ∷ []))
-  all-append [] e h p = (p, tt)
-  all-append (x ∷ es) e h p = (h .0, all-append es e (h .1) p)
-
-  pub all-map : (Q : A → Type 0) → ((x : A) → P x → Q x) → (es : List A) → All P es → All Q es
-  all-map Q f [] h = tt
-  all-map Q f (x ∷ es) h = (f x (h .0), all-map Q f es (h .1))

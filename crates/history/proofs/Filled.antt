@@ -4,16 +4,14 @@ use mathlib.Core.Path.{_≡_, refl}
 use mathlib.Core.Bool.{Bool, true, false, cond, _||_}
 use mathlib.Core.List.{List, [], _∷_, List·Memᴰ, List·Memᴰ·head, List·Memᴰ·tail, List·Memᴰ·not-nil, List·Memᴰ·cases-cons}
 use mathlib.Core.Logic.{⊎-elim}
-use native.Mathlib.Omega.{arith}
 use native.Mathlib.Decide.{ℕ-discrete}
 use borrow.Author.Tests.{eq-eqb, ne-eqb}
 use lib.Dec.{eqb}
+use Rattle.lists.proofs.Cases.{never}
 use Rattle.metric.specs.declared.Time.{Time}
-use Rattle.metric.specs.declared.Cell.the-variants.{Empty, Filled}
 use Rattle.history.specs.Meaning.{Entry, copiesOf, anyCE, cellOf, cellBy, AsArrivals}
-
-zero-is-one : _≡_ {A = ℕ} 0 1 → ⊥
-zero-is-one q = omega arith
+use Rattle.metric.specs.Metric.{congested}
+use Rattle.metric.specs.declared.Cell.the-variants.{Empty, Filled}
 
 module _ (n : ℕ) where
   -- the copies are the entries of the full number n
@@ -48,47 +46,47 @@ module _ (n : ℕ) where
             | no g ↦ later (more (rw (ne-eqb (x .full) n g) at m))
           ]
 
--- some copy bore mark 3
-any-is : (cs : List Entry) (e : Entry) → List·Memᴰ e cs → e .mark ≡ 3 → anyCE cs ≡ true
+-- some copy carried ECN-CE
+any-is : (cs : List Entry) (e : Entry) → List·Memᴰ e cs → e .mark ≡ congested → anyCE cs ≡ true
 any-is [] e m q = absurd (List·Memᴰ·not-nil m)
-any-is (c ∷ cs) e m q = ⊎-elim (λ h. here h) (λ h. there (eqb (c .mark) 3) (any-is cs e h q)) (List·Memᴰ·cases-cons m)
+any-is (c ∷ cs) e m q = ⊎-elim (λ h. here h) (λ h. there (eqb (c .mark) congested) (any-is cs e h q)) (List·Memᴰ·cases-cons m)
   where
-    here : e ≡ c → (eqb (c .mark) 3 || anyCE cs) ≡ true
+    here : e ≡ c → (eqb (c .mark) congested || anyCE cs) ≡ true
     here h =
-        let g : c .mark ≡ 3 = rw (← h) q in
-        rw (eq-eqb (c .mark) 3 g)
+        let g : c .mark ≡ congested = rw (← h) q in
+        rw (eq-eqb (c .mark) congested g)
 
     there : (b : Bool) → anyCE cs ≡ true → (b || anyCE cs) ≡ true
     there true t = refl
     there false t = t
 
-any-not : (cs : List Entry) → ((e : Entry) → List·Memᴰ e cs → e .mark ≡ 3 → ⊥) → anyCE cs ≡ false
+any-not : (cs : List Entry) → ((e : Entry) → List·Memᴰ e cs → e .mark ≡ congested → ⊥) → anyCE cs ≡ false
 any-not [] h = refl
 any-not (c ∷ cs) h =
-    rw (ne-eqb (c .mark) 3 (h c (List·Memᴰ·head refl)))
+    rw (ne-eqb (c .mark) congested (h c (List·Memᴰ·head refl)))
     (any-not cs (λ e m. h e (List·Memᴰ·tail m)))
 
 -- a cell by its copies
 module _ (mark : ℕ) (time : Time) where
   cell-some : (cs : List Entry) → cellOf cs ≡ Filled mark time → (e : Entry) × List·Memᴰ e cs
-  cell-some [] h = absurd (zero-is-one (let z : _≡_ {A = ℕ} 0 1 = cc in z))
+  cell-some [] h = never (cc)
   cell-some (c ∷ cs) h = (c, List·Memᴰ·head refl)
 
   cell-time : (cs : List Entry) (e : Entry) (rest : List Entry) → cellOf cs ≡ Filled mark time → cs ≡ e ∷ rest → time ≡ e .time
   cell-time cs e rest h q =
-      let g : Filled (cond (anyCE (e ∷ rest)) 3 (e .mark)) (e .time) ≡ Filled mark time = rw q at h in
+      let g : Filled (cond (anyCE (e ∷ rest)) congested (e .mark)) (e .time) ≡ Filled mark time = rw q at h in
       cc
 
-  cell-ce : (cs : List Entry) (e : Entry) → cellOf cs ≡ Filled mark time → List·Memᴰ e cs → e .mark ≡ 3 → mark ≡ 3
+  cell-ce : (cs : List Entry) (e : Entry) → cellOf cs ≡ Filled mark time → List·Memᴰ e cs → e .mark ≡ congested → mark ≡ congested
   cell-ce [] e h m q = absurd (List·Memᴰ·not-nil m)
   cell-ce (c ∷ cs) e h m q =
-      let g : Filled 3 (c .time) ≡ Filled mark time = rw (any-is (c ∷ cs) e m q) at h in
+      let g : Filled congested (c .time) ≡ Filled mark time = rw (any-is (c ∷ cs) e m q) at h in
       cc
 
   cell-other : (cs : List Entry) (e : Entry) (rest : List Entry) → cellOf cs ≡ Filled mark time → cs ≡ e ∷ rest
-      → ((d : Entry) → List·Memᴰ d cs → d .mark ≡ 3 → ⊥) → mark ≡ e .mark
+      → ((d : Entry) → List·Memᴰ d cs → d .mark ≡ congested → ⊥) → mark ≡ e .mark
   cell-other cs e rest h q n =
-      let k : Filled (cond (anyCE (e ∷ rest)) 3 (e .mark)) (e .time) ≡ Filled mark time = rw q at h in
+      let k : Filled (cond (anyCE (e ∷ rest)) congested (e .mark)) (e .time) ≡ Filled mark time = rw q at h in
       let z : anyCE (e ∷ rest) ≡ false = any-not (e ∷ rest) (λ d m. n d (rw q m)) in
       let g : Filled (e .mark) (e .time) ≡ Filled mark time = rw z at k in
       cc
@@ -104,4 +102,4 @@ as-arrivals es n = record {
   where
     some : (cs : List Entry) (e : Entry) → List·Memᴰ e cs → cellOf cs ≡ Empty → ⊥
     some [] e m z = List·Memᴰ·not-nil m
-    some (c ∷ cs) e m z = zero-is-one (let k : _≡_ {A = ℕ} 0 1 = cc in k)
+    some (c ∷ cs) e m z = never (cc)

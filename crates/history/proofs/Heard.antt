@@ -8,16 +8,19 @@ use native.Mathlib.Decide.{ℕ-discrete, decLe}
 use borrow.Author.Tests.{lt-ltb, le-ltb, eq-eqb, ne-eqb, eqb-true}
 use lib.Dec.{eqb}
 use lib.ListN.{length, set}
+use Rattle.lists.specs.declared.Found.{Found}
+use Rattle.lists.proofs.First.{first-below, first-true}
+use Rattle.lists.proofs.Cases.{never}
 use Rattle.metric.specs.declared.Time.{Time}
-use Rattle.window.specs.declared.Found.{Found}
-use Rattle.window.specs.declared.Found.the-variants.{At, Nothing}
-use Rattle.window.proofs.First.{first-below, first-true}
-use Rattle.store.specs.declared.Arrival.the-variants as arrival
 use Rattle.history.specs.Calls.{Call, arrive, forget, toArrival, toForgetting, Accepted, isDone, heard, heardAll}
 use Rattle.history.specs.Meaning.{Entry, fullOf, firstFull, entryOf, countFrom, topFrom, entriesOf, topOf}
-use Rattle.history.specs.Model.{Place, free, stream, names, isVacant, highestIn, entriesIn, at, findIn, vacantIn, Arrived, addedAt, laterAt, startedIn, arrivedIn, modelArrived, forgotAt, modelForgot, modelStep, modelAnswer, modelRun, modelAnswers, vacant}
+use Rattle.history.specs.Model.{Place, free, stream, names, isVacant, highestIn, entriesIn, at, findIn, vacantIn, Arrived, addedAt, laterAt, startedIn}
+use Rattle.history.specs.Model.{arrivedIn, modelArrived, forgotAt, modelForgot, modelStep, modelAnswer, modelRun, modelAnswers, vacant}
 use Rattle.history.proofs.Simulation.{later-old, later-in, named-is, vacant-is, vacant-at}
 use Rattle.history.proofs.Once.{Once, foundIn, streamIn, names-one, stream-none, lost, set-once, set-other, set-same, set-none}
+use Rattle.metric.specs.Metric.{congested}
+use Rattle.window.specs.Ring.{cellsOfAPlace}
+use Rattle.lists.specs.declared.Found.the-variants.{At, Nothing}
 
 -- a stream with its accepted arrivals
 abbrev pub placeBy : ℕ → List Accepted → Place
@@ -30,7 +33,8 @@ unfolding topFrom
 top-append [] a top = refl
 top-append (b ∷ l) a top = top-append l a (max top (fullOf top (b .number)))
 
-count-append : (l : List Accepted) (a : Accepted) (top : ℕ) → countFrom top (l ++ (a ∷ [])) ≡ countFrom top l ++ (entryOf (fullOf (topFrom top l) (a .number)) a ∷ [])
+count-append : (l : List Accepted) (a : Accepted) (top : ℕ)
+    → countFrom top (l ++ (a ∷ [])) ≡ countFrom top l ++ (entryOf (fullOf (topFrom top l) (a .number)) a ∷ [])
 unfolding topFrom countFrom
 count-append [] a top = refl
 count-append (b ∷ l) a top = rw (count-append l a (max top (fullOf top (b .number))))
@@ -42,10 +46,7 @@ module _ (x : ℕ) (a : Accepted) where
 
   later-by : (top : ℕ) (es : List Entry) (l : List Accepted) → stream x top es ≡ placeBy x l
       → stream x (max top (fullOf top (a .number))) (es ++ (entryOf (fullOf top (a .number)) a ∷ [])) ≡ placeBy x (l ++ (a ∷ []))
-  later-by top es [] e = let z : _≡_ {A = ℕ} 0 1 = cc in absurd (zero-is-one z)
-    where
-      zero-is-one : _≡_ {A = ℕ} 0 1 → ⊥
-      zero-is-one q = omega arith
+  later-by top es [] e = never (cc)
   later-by top es (b ∷ l) e =
       let t : top ≡ topFrom (firstFull (b .number)) l = cc in
       let s : es ≡ entryOf (firstFull (b .number)) b ∷ countFrom (firstFull (b .number)) l = cc in
@@ -110,7 +111,8 @@ module _ (ps : List Place) (acc : ℕ → List Accepted) (K : Kept ps acc) where
     added-kept k full there was lone e =
         changed-kept call k (stream x (max (highestIn (at ps k)) full) (entriesIn (at ps k) ++ (entryOf full new ∷ []))) x there
         (λ y t. sym (eqb-true x y t)) was lone
-        (set-same ps k (stream x (max (highestIn (at ps k)) full) (entriesIn (at ps k) ++ (entryOf full new ∷ []))) x there (K .once) (λ y t. sym (eqb-true x y t)) was lone (eq-eqb x x refl)
+        (set-same ps k (stream x (max (highestIn (at ps k)) full) (entriesIn (at ps k) ++ (entryOf full new ∷ []))) x there
+        (K .once) (λ y t. sym (eqb-true x y t)) was lone (eq-eqb x x refl)
         ∙ e
         ∙ ap (placeBy x) (sym own-arrival))
         other-arrival
@@ -121,7 +123,7 @@ module _ (ps : List Place) (acc : ℕ → List Accepted) (K : Kept ps acc) where
         let b = first-below (λ (i : ℕ). names x (at ps i)) (length ps) 0 k f in
         let n = named-is x (at ps k) t in
         let s : stream x (n .0) (n .1 .0) ≡ placeBy x (acc x) = sym (n .1 .1) ∙ sym (ap (λ (g : Found). foundIn g ps) f) ∙ K .each x in
-        elim (decLe (fullOf (highestIn (at ps k)) number + 2048) (highestIn (at ps k))) [
+        elim (decLe (fullOf (highestIn (at ps k)) number + cellsOfAPlace) (highestIn (at ps k))) [
           | yes l ↦ rw (later-old ps k x (fullOf (highestIn (at ps k)) number) mark time l) (refused-kept call)
           | no l ↦
               rw (later-in ps k x (fullOf (highestIn (at ps k)) number) mark time (omega arith))
@@ -143,16 +145,13 @@ module _ (ps : List Place) (acc : ℕ → List Accepted) (K : Kept ps acc) where
       where
         none : (l : List Accepted) → free ≡ placeBy x l → l ≡ []
         none [] e = refl
-        none (b ∷ l) e = let z : _≡_ {A = ℕ} 0 1 = cc in absurd (zero-is-one z)
-          where
-            zero-is-one : _≡_ {A = ℕ} 0 1 → ⊥
-            zero-is-one q = omega arith
+        none (b ∷ l) e = never (cc)
 
     arrived-kept : Goal (modelArrived ps x number mark time)
     arrived-kept =
-        elim (decLe mark 3) [
-          | yes m ↦ rw (le-ltb 3 mark m) (found (findIn ps x) refl)
-          | no m ↦ rw (lt-ltb 3 mark (omega arith)) (refused-kept call)
+        elim (decLe mark congested) [
+          | yes m ↦ rw (le-ltb congested mark m) (found (findIn ps x) refl)
+          | no m ↦ rw (lt-ltb congested mark (omega arith)) (refused-kept call)
         ]
       where
         opened : (g : Found) → vacantIn ps ≡ g → findIn ps x ≡ Nothing → Goal (startedIn g ps x number mark time)
@@ -166,7 +165,8 @@ module _ (ps : List Place) (acc : ℕ → List Accepted) (K : Kept ps acc) where
   forgot-kept : (x : ℕ) → Kept (modelForgot ps x .places) (λ (y : ℕ). heard y (acc y) (forget x) (isDone (toForgetting (modelForgot ps x .answer))))
   forgot-kept x = found (findIn ps x) refl
     where
-      found : (f : Found) → findIn ps x ≡ f → Kept (forgotAt f ps .places) (λ (y : ℕ). heard y (acc y) (forget x) (isDone (toForgetting (forgotAt f ps .answer))))
+      found : (f : Found) → findIn ps x ≡ f
+          → Kept (forgotAt f ps .places) (λ (y : ℕ). heard y (acc y) (forget x) (isDone (toForgetting (forgotAt f ps .answer))))
       found (At k) e =
           let t = first-true (λ (i : ℕ). names x (at ps i)) (length ps) 0 k e in
           let b = first-below (λ (i : ℕ). names x (at ps i)) (length ps) 0 k e in
@@ -184,7 +184,8 @@ module _ (ps : List Place) (acc : ℕ → List Accepted) (K : Kept ps acc) where
   call-kept (forget x) = forgot-kept x
 
 -- every list of calls
-pub run-kept : (cs : List Call) (ps : List Place) (acc : ℕ → List Accepted) → Kept ps acc → Kept (modelRun ps cs) (λ (y : ℕ). heardAll y (acc y) cs (modelAnswers ps cs))
+pub run-kept : (cs : List Call) (ps : List Place) (acc : ℕ → List Accepted) → Kept ps acc
+    → Kept (modelRun ps cs) (λ (y : ℕ). heardAll y (acc y) cs (modelAnswers ps cs))
 run-kept [] ps acc K = K
 run-kept (c ∷ cs) ps acc K = run-kept cs (modelStep ps c) (λ (y : ℕ). heard y (acc y) c (isDone (modelAnswer ps c))) (call-kept ps acc K c)
 

@@ -8,10 +8,10 @@ use native.Mathlib.Decide.{ℕ-discrete, decLt}
 use borrow.Author.Tests.{eqb-true}
 use lib.ListN.{length, set, List·getD-eq-default}
 use lib.Seq.{getD-set-same, getD-set-other}
-use Rattle.window.specs.declared.Found.{Found}
-use Rattle.window.specs.declared.Found.the-variants.{At, Nothing}
-use Rattle.window.proofs.First.{first-true, first-false}
+use Rattle.lists.specs.declared.Found.{Found}
+use Rattle.lists.proofs.First.{first-true, first-false}
 use Rattle.history.specs.Model.{Place, free, stream, names, at, findIn}
+use Rattle.lists.specs.declared.Found.the-variants.{At, Nothing}
 
 abbrev pub Once : List Place → Type 0
 Once ps = (x p q : ℕ) → names x (at ps p) ≡ true → names x (at ps q) ≡ true → p ≡ q

@@ -1,28 +1,19 @@
 -- The places of a store and those of the machine, side by side. Assumes nothing.
-use Prim.Native.Nat.{ℕ, _/_, _<_}
+use Prim.Native.Nat.{ℕ, _<_}
 use mathlib.Core.Path.{_≡_, sym, ap, _∙_}
 use mathlib.Core.List.{List}
 use native.Mathlib.Omega.{arith}
 use native.Mathlib.Decide.{ℕ-discrete}
 use lib.ListN.{length, getD, set, length-set}
 use lib.Seq.{getD-set-same, getD-set-other}
-use Rattle.window.proofs.First.{first-cong}
-use Rattle.store.specs.Place.{highestOf, readPlace, placeAt, isStream, isFree, findOf, freeOf}
-use Rattle.store.specs.Cell.{readCell, cellAt}
-use Rattle.store.specs.declared.Holding.{Holding}
-use Rattle.store.specs.declared.Holding.the-variants.{Held}
-use Rattle.store.proofs.Places.{read-held, read-free}
+use Rattle.lists.proofs.First.{first-cong}
+use Rattle.places.specs.Place.{readPlace, placeAt, isStream, isFree, findOf, freeOf}
+use Rattle.places.specs.Window.{cellAt}
+use Rattle.places.specs.declared.Holding.{Holding}
+use Rattle.cells.specs.Cell.{readCell}
 use Rattle.history.specs.Calls.{Store}
 use Rattle.history.specs.Model.{Place, free, stream, names, isVacant, at, findIn, vacantIn}
 use Rattle.history.specs.Reading.{ReadsAt, Reads}
-
--- a held place's highest number is the one that its word keeps
-pub held-highest : (word x h : ℕ) → readPlace word ≡ Held x h → highestOf word ≡ h
-held-highest word x h e =
-    elim (ℕ-discrete (word / 281474976710656) 1) [
-      | yes q ↦ let r = read-held word q in cc
-      | no q ↦ let r = read-free word q in let z : _≡_ {A = ℕ} 0 1 = cc in omega arith
-    ]
 
 module _ (cells : List ℕ) (k : ℕ) (h : Holding) where
   pub named : (ssrc : ℕ) (P : Place) → ReadsAt cells k h P → isStream ssrc h ≡ names ssrc P

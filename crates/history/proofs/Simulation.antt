@@ -8,48 +8,56 @@ use native.Mathlib.Decide.{decLe, decLt}
 use borrow.Author.Tests.{lt-ltb, le-ltb, le-leb, lt-leb, eqb-true}
 use lib.ListN.{length, getD, set, length-set, replicate, length-replicate}
 use lib.Seq.{getD-set-same, getD-set-other}
-use Rattle.refusal.specs.Lists.{All}
-use Rattle.refusal.specs.declared.Refusal.the-variants.{TooOld}
+use Rattle.lists.specs.All.{All}
+use Rattle.lists.specs.declared.Found.{Found}
+use Rattle.lists.specs.First.{firstFrom}
+use Rattle.lists.proofs.First.{first-below, first-true}
+use Rattle.lists.proofs.All.{all-append, all-map}
 use Rattle.metric.specs.declared.Time.{Time}
-use Rattle.metric.specs.declared.Cell.the-variants.{Empty}
-use Rattle.window.specs.Number.{distanceOf, moveOf}
+use Rattle.metric.specs.Metric.{TimeInRange, congested}
+use Rattle.window.specs.Number.{distanceOf, moveOf, farthestAhead, sequenceNumbers}
 use Rattle.window.specs.declared.Move.{Move}
-use Rattle.window.specs.declared.Move.the-variants as move
-use Rattle.window.specs.declared.Found.{Found}
-use Rattle.window.specs.declared.Found.the-variants.{At, Nothing}
-use Rattle.window.specs.First.{firstFrom}
 use Rattle.window.proofs.Number.{move-ahead, move-within, move-old}
-use Rattle.window.proofs.First.{first-below, first-true}
-use Rattle.store.specs.Place.{placeWord, readPlace, placeAt, highestAt}
-use Rattle.store.specs.Cell.{readCell, cellAt, entered, advanced}
-use Rattle.store.specs.Store.{Outcome, moved, movedBy, continued, startedAt, arrivedAt, arrived, releasedAt, forgotten, answerOf, placeOf}
-use Rattle.store.specs.declared.Holding.{Holding}
-use Rattle.store.specs.declared.Holding.the-variants.{Held}
-use Rattle.store.specs.declared.Arrival.the-variants as arrival
-use Rattle.store.proofs.Places.{read-word, read-zero}
-use Rattle.store.proofs.Shape.{shaped-is}
-use Rattle.store.proofs.Calls.{continued-by}
-use Rattle.history.specs.Calls.{Call, arrive, forget, toArrival, toForgetting, Store, storeStep, storeAnswer, storeRun, storeAnswers, TimeInRange, CallInRange}
+use Rattle.places.specs.Place.{placeWord, readPlace, placeAt, highestAt}
+use Rattle.places.specs.Window.{cellAt, newestEmptied, StoreAfter, moved, movedBy, continued, startedAt, updated}
+use Rattle.places.specs.declared.Holding.{Holding}
+use Rattle.places.proofs.Places.{read-word, read-zero}
+use Rattle.places.proofs.Shape.{shaped-is}
+use Rattle.places.proofs.Moving.{continued-by}
+use Rattle.places.proofs.Held.{held-highest}
+use Rattle.cells.specs.Cell.{readCell, wordAfter}
+use Rattle.store.specs.Store.{arrivedAt, arrived, forgottenAt, forgotten, answerOf, placeOf}
+use Rattle.store.specs.declared.Arrival.{Arrival}
+use Rattle.history.specs.Calls.{Call, arrive, forget, toArrival, toForgetting, Store, storeStep, storeAnswer, storeRun, storeAnswers, CallInRange}
 use Rattle.history.specs.Meaning.{Entry, fullOf, firstFull, cellBy, EntryInRange}
-use Rattle.history.specs.Model.{Place, free, stream, names, isVacant, highestIn, at, findIn, vacantIn, Arrived, refusedIn, addedAt, laterAt, startedIn, arrivedIn, modelArrived, forgotAt, modelForgot, modelPlace, modelStep, modelAnswer, modelRun, modelAnswers, vacant}
+use Rattle.history.specs.Model.{Place, free, stream, names, isVacant, highestIn, at, findIn, vacantIn, Arrived, refusedIn, addedAt, laterAt, startedIn}
+use Rattle.history.specs.Model.{arrivedIn, modelArrived, forgotAt, modelForgot, modelPlace, modelStep, modelAnswer, modelRun, modelAnswers, vacant}
 use Rattle.history.specs.Reading.{Holds, ReadsAt, Reads, Fresh}
 use Rattle.history.proofs.Numbers.{full-ahead, full-behind, full-low}
-use Rattle.history.proofs.Copies.{by-none, by-above, all-append, all-map}
+use Rattle.history.proofs.Copies.{by-none, by-above}
 use Rattle.history.proofs.Cells.{length-entered, entered-away, length-advanced, advanced-away, advanced-reads, entered-reads}
-use Rattle.history.proofs.Places.{held-highest, find-same, free-same, replaced}
+use Rattle.history.proofs.Places.{find-same, free-same, replaced}
+use Rattle.places.specs.Shape.{mostPlaces}
+use Rattle.window.specs.Ring.{cellsOfAPlace}
+use Rattle.refusal.specs.declared.Refusal.the-variants.{TooOld}
+use Rattle.metric.specs.declared.Cell.the-variants.{Empty}
+use Rattle.window.specs.declared.Move.the-variants as move
+use Rattle.lists.specs.declared.Found.the-variants.{At, Nothing}
+use Rattle.places.specs.declared.Holding.the-variants.{Held}
+use Rattle.store.specs.declared.Arrival.the-variants as arrival
 
 -- ---- the machine's answer to an arrival at a held place
 module _ (ps : List Place) (k ssrc full mark : ℕ) (time : Time) where
-  pub later-old : full + 2048 ≤ highestIn (at ps k) → laterAt ps k ssrc full mark time ≡ refusedIn TooOld ps
+  pub later-old : full + cellsOfAPlace ≤ highestIn (at ps k) → laterAt ps k ssrc full mark time ≡ refusedIn TooOld ps
   unfolding laterAt
-  later-old l = rw (le-leb (full + 2048) (highestIn (at ps k)) l)
+  later-old l = rw (le-leb (full + cellsOfAPlace) (highestIn (at ps k)) l)
 
-  pub later-in : highestIn (at ps k) < full + 2048 → laterAt ps k ssrc full mark time ≡ addedAt ps k ssrc full mark time
+  pub later-in : highestIn (at ps k) < full + cellsOfAPlace → laterAt ps k ssrc full mark time ≡ addedAt ps k ssrc full mark time
   unfolding laterAt
-  later-in l = rw (lt-leb (full + 2048) (highestIn (at ps k)) l)
+  later-in l = rw (lt-leb (full + cellsOfAPlace) (highestIn (at ps k)) l)
 
-never : (x m : ℕ) → x < m + 2048 → m + 2048 ≤ x → ⊥
-never x m a b = omega arith
+in-and-below : (x m : ℕ) → x < m + cellsOfAPlace → m + cellsOfAPlace ≤ x → ⊥
+in-and-below x m a b = omega arith
 
 -- what a search of the machine finds
 pub named-is : (ssrc : ℕ) (P : Place) → names ssrc P ≡ true → (top : ℕ) × ((es : List Entry) × (P ≡ stream ssrc top es))
@@ -64,24 +72,28 @@ there-in : (st : Store) (ps : List Place) → Reads st ps → (test : ℕ → Bo
 there-in st ps R test k e = let l = first-below test (length ps) 0 k e in let c = R .count in omega arith
 
 -- the same answer, and what is left reads alike
-pub record Alike (o : Outcome) (a : Arrived) : Type 0 where
+pub record Alike (o : StoreAfter Arrival) (a : Arrived) : Type 0 where
   pub answer : o .answer ≡ a .answer
   pub reads : Reads (record { places = o .places; cells = o .cells }) (a .places)
 
 module _ (st : Store) (ps : List Place) (R : Reads st ps)
-    (ssrc number mark : ℕ) (time : Time) (ssrcLow : ssrc < 4294967296) (numberLow : number < 65536) (markLow : mark ≤ 3) (timeLow : TimeInRange time) where
+    (ssrc number mark : ℕ) (time : Time) (ssrcLow : ssrc < 2 ^ 32) (numberLow : number < sequenceNumbers) (markLow : mark ≤ congested)
+    (timeLow : TimeInRange time) where
   abbrev entry : ℕ → Entry
   entry full = record { full = full; mark = mark; time = time }
 
   module _ (k : ℕ) (there : k < length (st .places)) where
-    room : 2048 * k + 2048 ≤ length (st .cells)
+    room : cellsOfAPlace * k + cellsOfAPlace ≤ length (st .cells)
     room = let h = R .shape .sized in omega arith
 
     -- a number of the window
-    within : (top full : ℕ) (es : List Entry) → Holds (st .cells) k (placeAt (st .places) k) ssrc top es → full % 65536 ≡ number → full ≤ top → top < full + 2048
-        → Reads (record { places = st .places; cells = entered (st .cells) k number mark time }) (set ps k (stream ssrc top (es ++ (entry full ∷ []))))
+    within : (top full : ℕ) (es : List Entry) → Holds (st .cells) k (placeAt (st .places) k) ssrc top es
+        → full % sequenceNumbers ≡ number → full ≤ top → top < full + cellsOfAPlace
+        → Reads (record { places = st .places; cells = updated (wordAfter mark time) (st .cells) k number })
+        (set ps k (stream ssrc top (es ++ (entry full ∷ []))))
     within top full es S low le lt =
-        replaced st ps R k (st .places) (entered (st .cells) k number mark time) (stream ssrc top (es ++ (entry full ∷ []))) there refl (length-entered (st .cells) k number mark time)
+        replaced st ps R k (st .places) (updated (wordAfter mark time) (st .cells) k number)
+        (stream ssrc top (es ++ (entry full ∷ []))) there refl (length-entered (st .cells) k number mark time)
         (λ q n. refl) (λ q m n. entered-away (st .cells) k number mark time q m n)
         (record {
           place = S .place;
@@ -92,25 +104,27 @@ module _ (st : Store) (ps : List Place) (R : Reads st ps)
         })
 
     -- a number ahead, or the first: n numbers come into the window
-    moved-on : (full n : ℕ) (es : List Entry) → full % 65536 ≡ number → 65536 ≤ full → n ≤ 2048
-        → ((m : ℕ) → m ≤ full → full < m + 2048 → m + n ≤ full → readCell (cellAt (st .cells) k m) ≡ cellBy es m)
+    moved-on : (full n : ℕ) (es : List Entry) → full % sequenceNumbers ≡ number → sequenceNumbers ≤ full → n ≤ cellsOfAPlace
+        → ((m : ℕ) → m ≤ full → full < m + cellsOfAPlace → m + n ≤ full → readCell (cellAt (st .cells) k m) ≡ cellBy es m)
         → ((m : ℕ) → m ≤ full → full < m + n → cellBy es m ≡ Empty)
         → All (λ (e : Entry). e .full ≤ full) es → All EntryInRange es
-        → Reads (record { places = set (st .places) k (placeWord ssrc number); cells = entered (advanced (st .cells) k number n) k number mark time })
+        → Reads
+        (record { places = set (st .places) k (placeWord ssrc number); cells = updated (wordAfter mark time) (newestEmptied (st .cells) k number n) k number })
         (set ps k (stream ssrc full (es ++ (entry full ∷ []))))
     moved-on full n es low begun few old new below range =
-        replaced st ps R k (set (st .places) k (placeWord ssrc number)) (entered (advanced (st .cells) k number n) k number mark time) (stream ssrc full (es ++ (entry full ∷ []))) there
+        replaced st ps R k (set (st .places) k (placeWord ssrc number))
+        (updated (wordAfter mark time) (newestEmptied (st .cells) k number n) k number) (stream ssrc full (es ++ (entry full ∷ []))) there
         (length-set (st .places) k (placeWord ssrc number))
-        (length-entered (advanced (st .cells) k number n) k number mark time ∙ length-advanced (st .cells) k number n)
+        (length-entered (newestEmptied (st .cells) k number n) k number mark time ∙ length-advanced (st .cells) k number n)
         (λ q e. getD-set-other (st .places) k q (placeWord ssrc number) 0 e)
-        (λ q m e. entered-away (advanced (st .cells) k number n) k number mark time q m e ∙ advanced-away (st .cells) k number n q m e)
+        (λ q m e. entered-away (newestEmptied (st .cells) k number n) k number mark time q m e ∙ advanced-away (st .cells) k number n q m e)
         (record {
           place =
               ap readPlace (getD-set-same (st .places) k (placeWord ssrc number) 0 there)
               ∙ read-word ssrc number ssrcLow numberLow
               ∙ ap (λ (x : ℕ). Held ssrc x) (sym low);
           window =
-              entered-reads (advanced (st .cells) k number n) k full number es (entry full) low (omega arith) (omega arith) markLow timeLow
+              entered-reads (newestEmptied (st .cells) k number n) k full number es (entry full) low (omega arith) (omega arith) markLow timeLow
               (rw (length-advanced (st .cells) k number n) room)
               (λ m le lt. advanced-reads (st .cells) k number n full low few room m le es lt (old m le lt) (new m le));
           begun = begun;
@@ -123,43 +137,48 @@ module _ (st : Store) (ps : List Place) (R : Reads st ps)
       S : Holds (st .cells) k (placeAt (st .places) k) ssrc top es
       S = rw held at (R .each k)
 
-      high : highestAt (st .places) k ≡ top % 65536
-      high = held-highest (getD (st .places) k 0) ssrc (top % 65536) (S .place)
+      high : highestAt (st .places) k ≡ top % sequenceNumbers
+      high = held-highest (getD (st .places) k 0) ssrc (top % sequenceNumbers) (S .place)
 
       abbrev Goal : ℕ → Type 0
-      Goal full = Alike (continued (st .places) (st .cells) k ssrc number mark time) (laterAt ps k ssrc full mark time)
+      Goal full =
+          Alike (continued arrival.Accepted arrival.Refused (wordAfter mark time) (st .places) (st .cells) k ssrc number) (laterAt ps k ssrc full mark time)
 
-      by : (m : Move) → moveOf (top % 65536) number ≡ m → continued (st .places) (st .cells) k ssrc number mark time ≡ movedBy m (st .places) (st .cells) k ssrc number mark time
-      by m e = sym (continued-by (st .places) (st .cells) k ssrc number mark time m (ap (λ (h : ℕ). moveOf h number) high ∙ e))
+      by : (m : Move) → moveOf (top % sequenceNumbers) number ≡ m → continued arrival.Accepted arrival.Refused (wordAfter mark time)
+          (st .places) (st .cells) k ssrc number ≡ movedBy arrival.Accepted arrival.Refused (wordAfter mark time) m (st .places) (st .cells) k ssrc number
+      by m e =
+          sym (continued-by arrival.Accepted arrival.Refused (wordAfter mark time) (st .places) (st .cells) k ssrc number m
+          (ap (λ (h : ℕ). moveOf h number) high ∙ e))
 
-      as-old : 32767 < distanceOf number (top % 65536) → 2048 ≤ distanceOf (top % 65536) number → Goal (fullOf top number)
+      as-old : farthestAhead < distanceOf number (top % sequenceNumbers) → cellsOfAPlace ≤ distanceOf (top % sequenceNumbers) number → Goal (fullOf top number)
       as-old f b =
           let g = S .begun in
           let full = full-behind top number g numberLow (λ l. f) in
-          rw (by move.TooOld (move-old (top % 65536) number (λ l. f) b), later-old ps k ssrc (fullOf top number) mark time (rw held (omega arith)))
+          rw (by move.TooOld (move-old (top % sequenceNumbers) number (λ l. f) b), later-old ps k ssrc (fullOf top number) mark time (rw held (omega arith)))
           (record { answer = refl; reads = R })
 
-      as-within : (0 < distanceOf number (top % 65536) → 32767 < distanceOf number (top % 65536)) → distanceOf (top % 65536) number < 2048 → Goal (fullOf top number)
+      as-within : (0 < distanceOf number (top % sequenceNumbers) → farthestAhead < distanceOf number (top % sequenceNumbers))
+          → distanceOf (top % sequenceNumbers) number < cellsOfAPlace → Goal (fullOf top number)
       as-within f b =
           let g = S .begun in
           let full = full-behind top number g numberLow f in
           let same : max top (fullOf top number) ≡ top = omega arith in
           rw (
-            by (move.Within (distanceOf (top % 65536) number)) (move-within (top % 65536) number f b),
+            by (move.Within (distanceOf (top % sequenceNumbers) number)) (move-within (top % sequenceNumbers) number f b),
             later-in ps k ssrc (fullOf top number) mark time (rw held (omega arith)),
             held,
             same,
           )
           (record { answer = refl; reads = within top (fullOf top number) es S (full-low top number g numberLow) (omega arith) (omega arith) })
 
-      as-ahead : 0 < distanceOf number (top % 65536) → distanceOf number (top % 65536) ≤ 32767 → Goal (fullOf top number)
+      as-ahead : 0 < distanceOf number (top % sequenceNumbers) → distanceOf number (top % sequenceNumbers) ≤ farthestAhead → Goal (fullOf top number)
       unfolding moved
       as-ahead l f =
           let g = S .begun in
           let full = full-ahead top number g numberLow f in
           let same : max top (fullOf top number) ≡ fullOf top number = omega arith in
           rw (
-            by (move.Ahead (distanceOf number (top % 65536))) (move-ahead (top % 65536) number l f),
+            by (move.Ahead (distanceOf number (top % sequenceNumbers))) (move-ahead (top % sequenceNumbers) number l f),
             later-in ps k ssrc (fullOf top number) mark time (rw held (omega arith)),
             held,
             same,
@@ -167,37 +186,40 @@ module _ (st : Store) (ps : List Place) (R : Reads st ps)
           (record {
             answer = refl;
             reads =
-                moved-on (fullOf top number) (min (distanceOf number (top % 65536)) 2048) es (full-low top number g numberLow) (omega arith) (omega arith)
+                moved-on (fullOf top number) (min (distanceOf number (top % sequenceNumbers)) cellsOfAPlace) es (full-low top number g numberLow) (omega arith) (omega arith)
                 (λ m a b c. S .window m (omega arith) (omega arith))
                 (λ m a b. by-above top m es (S .highest) (omega arith))
-                (all-map (λ (e : Entry). e .full ≤ top) (λ (e : Entry). e .full ≤ fullOf top number) (λ e h. omega arith) es (S .highest))
+                (all-map es (λ e h. omega arith) (S .highest))
                 (S .inRange);
           })
 
       pub later-alike : Goal (fullOf top number)
       later-alike =
-          elim (decLe (distanceOf number (top % 65536)) 32767) [
+          elim (decLe (distanceOf number (top % sequenceNumbers)) farthestAhead) [
             | yes f ↦
-                elim (decLe (distanceOf number (top % 65536)) 0) [
+                elim (decLe (distanceOf number (top % sequenceNumbers)) 0) [
                   | yes z ↦ as-within (λ l. omega arith) (omega arith)
                   | no z ↦ as-ahead (omega arith) f
                 ]
             | no f ↦
-                elim (decLt (distanceOf (top % 65536) number) 2048) [
+                elim (decLt (distanceOf (top % sequenceNumbers) number) cellsOfAPlace) [
                   | yes b ↦ as-within (λ l. omega arith) b
                   | no b ↦ as-old (omega arith) (omega arith)
                 ]
           ]
 
     -- a new stream
-    started-alike : at ps k ≡ free → Alike (moved (st .places) (st .cells) k ssrc number 2048 mark time) (addedAt ps k ssrc (firstFull number) mark time)
+    started-alike : at ps k ≡ free
+        → Alike (moved arrival.Accepted arrival.Refused (wordAfter mark time) (st .places) (st .cells) k ssrc number cellsOfAPlace)
+        (addedAt ps k ssrc (firstFull number) mark time)
     unfolding moved
     started-alike vacancy =
-        let same : max 0 (65536 + number) ≡ 65536 + number = omega arith in
+        let same : max 0 (sequenceNumbers + number) ≡ sequenceNumbers + number = omega arith in
         rw (vacancy, same)
         (record {
           answer = refl;
-          reads = moved-on (65536 + number) 2048 [] (omega arith) (omega arith) (omega arith) (λ m a b c. absurd (never (65536 + number) m b c)) (λ m a b. by-none m) tt tt;
+          reads = moved-on (sequenceNumbers + number) cellsOfAPlace [] (omega arith) (omega arith) (omega arith)
+              (λ m a b c. absurd (in-and-below (sequenceNumbers + number) m b c)) (λ m a b. by-none m) tt tt;
         })
 
   found-alike : (f : Found) → findIn ps ssrc ≡ f → Alike (arrivedAt f (st .places) (st .cells) ssrc number mark time) (arrivedIn f ps ssrc number mark time)
@@ -206,24 +228,28 @@ module _ (st : Store) (ps : List Place) (R : Reads st ps)
       rw (n .1 .1) (later-alike k (there-in st ps R (λ (i : ℕ). names ssrc (at ps i)) k e) (n .0) (n .1 .0) (n .1 .1))
   found-alike Nothing e = rw (free-same st ps R) (opened (vacantIn ps) refl)
     where
-      opened : (f : Found) → vacantIn ps ≡ f → Alike (startedAt f (st .places) (st .cells) ssrc number mark time) (startedIn f ps ssrc number mark time)
-      opened (At k) v = started-alike k (there-in st ps R (λ (i : ℕ). isVacant (at ps i)) k v) (vacant-is (at ps k) (first-true (λ (i : ℕ). isVacant (at ps i)) (length ps) 0 k v))
+      opened : (f : Found) → vacantIn ps ≡ f
+          → Alike (startedAt arrival.Accepted arrival.Refused (wordAfter mark time) f (st .places) (st .cells) ssrc number)
+          (startedIn f ps ssrc number mark time)
+      opened (At k) v = started-alike k (there-in st ps R (λ (i : ℕ). isVacant (at ps i)) k v)
+          (vacant-is (at ps k) (first-true (λ (i : ℕ). isVacant (at ps i)) (length ps) 0 k v))
       opened Nothing v = record { answer = refl; reads = R }
 
 module _ (st : Store) (ps : List Place) (R : Reads st ps) where
   -- an arrival
-  pub arrive-alike : (ssrc number mark : ℕ) (time : Time) → ssrc < 2 ^ 32 → number < 65536 → TimeInRange time
+  pub arrive-alike : (ssrc number mark : ℕ) (time : Time) → ssrc < 2 ^ 32 → number < sequenceNumbers → TimeInRange time
       → Alike (arrived (st .places) (st .cells) ssrc number mark time) (modelArrived ps ssrc number mark time)
   arrive-alike ssrc number mark time s n t =
       rw (shaped-is (st .places) (st .cells) (R .shape))
-      (elim (decLe mark 3) [
-        | yes m ↦ rw (le-ltb 3 mark m, find-same st ps R ssrc) (found-alike st ps R ssrc number mark time s n m t (findIn ps ssrc) refl)
-        | no m ↦ rw (lt-ltb 3 mark (omega arith)) (record { answer = refl; reads = R })
+      (elim (decLe mark congested) [
+        | yes m ↦ rw (le-ltb congested mark m, find-same st ps R ssrc) (found-alike st ps R ssrc number mark time s n m t (findIn ps ssrc) refl)
+        | no m ↦ rw (lt-ltb congested mark (omega arith)) (record { answer = refl; reads = R })
       ])
 
   -- forgetting a stream
   forgot-alike : (f : Found) (ssrc : ℕ) → findIn ps ssrc ≡ f
-      → (releasedAt f (st .places) .answer ≡ forgotAt f ps .answer) × Reads (record { places = releasedAt f (st .places) .places; cells = st .cells }) (forgotAt f ps .places)
+      → (forgottenAt f (st .places) .answer ≡ forgotAt f ps .answer)
+      × Reads (record { places = forgottenAt f (st .places) .places; cells = st .cells }) (forgotAt f ps .places)
   forgot-alike (At k) ssrc e =
       let l = there-in st ps R (λ (i : ℕ). names ssrc (at ps i)) k e in (
         refl,
@@ -280,7 +306,7 @@ fresh-reads st new = record {
 }
 
 -- places of zeros are a fresh store, whatever the cells hold
-pub zeroed-fresh : (n : ℕ) (cells : List ℕ) → 0 < n → n ≤ 16 → length cells ≡ 2048 * n → Fresh (record { places = replicate n 0; cells = cells })
+pub zeroed-fresh : (n : ℕ) (cells : List ℕ) → 0 < n → n ≤ mostPlaces → length cells ≡ cellsOfAPlace * n → Fresh (record { places = replicate n 0; cells = cells })
 zeroed-fresh n cells l h e = record {
   shape = let s = length-replicate {A = ℕ} n 0 in record { some = rw s l; few = rw s h; sized = rw s e };
   empty = λ k. ap readPlace (replicate-at 0 n k) ∙ read-zero;

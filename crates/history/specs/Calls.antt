@@ -1,14 +1,16 @@
--- A history: a list of calls that change a store, in the order in which they are made, and the answers to them.
+-- A history: the calls that change a store, in the order in which they are made, and the answers to them; and
+-- the accepted arrivals of a stream, as the answers say.
 use Prim.Native.Nat.{ℕ, _<_, _^_}
 use mathlib.Core.Bool.{Bool, true, false, cond, _&&_}
 use mathlib.Core.List.{List, [], _∷_, _++_}
 use lib.Dec.{eqb}
 use Rattle.metric.specs.declared.Time.{Time}
-use Rattle.metric.specs.declared.Time.the-variants.{Unknown, Known}
+use Rattle.metric.specs.Metric.{TimeInRange}
 use Rattle.store.specs.Store.{arrived, forgotten}
 use Rattle.store.specs.declared.Arrival.{Arrival}
-use Rattle.store.specs.declared.Arrival.the-variants as arrival
 use Rattle.store.specs.declared.Forgetting.{Forgetting}
+use Rattle.window.specs.Number.{sequenceNumbers}
+use Rattle.store.specs.declared.Arrival.the-variants as arrival
 use Rattle.store.specs.declared.Forgetting.the-variants as forgetting
 
 -- arrive: SSRC, sequence number, mark, time. forget: SSRC
@@ -75,15 +77,12 @@ heardAll ssrc past [] xs = past
 heardAll ssrc past (c ∷ cs) [] = past
 heardAll ssrc past (c ∷ cs) (x ∷ xs) = heardAll ssrc (heard ssrc past c (isDone x)) cs xs
 
--- the accepted arrivals of a stream since it took its place, in the order of the calls: a list of calls to a fresh store, and their answers
+-- the accepted arrivals of a stream since it took its place, in the order of the calls: of all calls to a
+-- fresh store, and the answers to them
 abbrev pub acceptedOf : ℕ → List Call → List Answer → List Accepted
 acceptedOf ssrc cs xs = heardAll ssrc [] cs xs
 
 -- what the types of a call's parameters say of them
-abbrev pub TimeInRange : Time → Type 0
-TimeInRange Unknown = Unit {0}
-TimeInRange (Known t) = t < 2 ^ 32
-
 abbrev pub CallInRange : Call → Type 0
-CallInRange (arrive ssrc number mark time) = (ssrc < 2 ^ 32) × ((number < 65536) × TimeInRange time)
+CallInRange (arrive ssrc number mark time) = (ssrc < 2 ^ 32) × ((number < sequenceNumbers) × TimeInRange time)
 CallInRange (forget ssrc) = ssrc < 2 ^ 32

@@ -1,16 +1,19 @@
--- Document 01, "Arrivals and the window": the meaning of a stream's cells by its accepted arrivals, with full numbers.
+-- What the cells of a stream mean, by its accepted arrivals alone. Each arrival has a full number: its
+-- sequence number, counted on without wrapping.
 use Prim.Native.Nat.{ℕ, _+_, _-_, _%_, _≤_, _<_, max}
 use mathlib.Core.Bool.{Bool, false, cond, _||_}
 use mathlib.Core.Path.{_≡_}
 use mathlib.Core.List.{List, [], _∷_, List·Memᴰ}
 use lib.Dec.{eqb, leb}
-use Rattle.window.specs.Number.{distanceOf}
 use Rattle.metric.specs.declared.Time.{Time}
 use Rattle.metric.specs.declared.Cell.{Cell}
+use Rattle.metric.specs.Metric.{TimeInRange, congested}
+use Rattle.window.specs.Number.{distanceOf, sequenceNumbers, farthestAhead}
+use Rattle.history.specs.Calls.{Accepted}
+use Rattle.window.specs.Ring.{cellsOfAPlace}
 use Rattle.metric.specs.declared.Cell.the-variants.{Empty, Filled}
-use Rattle.history.specs.Calls.{Accepted, TimeInRange}
 
--- an accepted arrival with its full number: the sequence number, counted on without wrapping
+-- an accepted arrival with its full number
 pub record Entry : Type 0 where
   pub full : ℕ
   pub mark : ℕ
@@ -18,15 +21,15 @@ pub record Entry : Type 0 where
 
 -- f numbers ahead of the highest, or 65536 - f behind it
 abbrev pub countedOn : ℕ → ℕ → ℕ
-countedOn top f = cond (leb f 32767) (top + f) (top + f - 65536)
+countedOn top f = cond (leb f farthestAhead) (top + f) (top + f - sequenceNumbers)
 
 -- the full number of an arrival, by the highest full number before it
 unfoldable pub fullOf : ℕ → ℕ → ℕ
-fullOf top number = countedOn top (distanceOf number (top % 65536))
+fullOf top number = countedOn top (distanceOf number (top % sequenceNumbers))
 
--- the first full number of a stream: none of a window goes below 0
+-- the first full number of a stream: high enough that no number of its window goes below 0
 abbrev pub firstFull : ℕ → ℕ
-firstFull number = 65536 + number
+firstFull number = sequenceNumbers + number
 
 abbrev pub entryOf : ℕ → Accepted → Entry
 entryOf full a = record { full = full; mark = a .mark; time = a .time }
@@ -55,33 +58,39 @@ copiesOf (e ∷ es) n = let rest = copiesOf es n in cond (eqb (e .full) n) (e �
 
 abbrev pub anyCE : List Entry → Bool
 anyCE [] = false
-anyCE (e ∷ es) = eqb (e .mark) 3 || anyCE es
+anyCE (e ∷ es) = eqb (e .mark) congested || anyCE es
 
--- filled exactly if there is one, with the first one's time, and mark 3 if any bore it, else the first one's mark
+-- filled exactly if there is one copy or more, with the first one's time, and ECN-CE if any
+-- carried it, else the first one's mark
 abbrev pub cellOf : List Entry → Cell
 cellOf [] = Empty
-cellOf (e ∷ es) = Filled (cond (anyCE (e ∷ es)) 3 (e .mark)) (e .time)
+cellOf (e ∷ es) = Filled (cond (anyCE (e ∷ es)) congested (e .mark)) (e .time)
 
 -- what the entries say of the full number n
 abbrev pub cellBy : List Entry → ℕ → Cell
 cellBy es n = cellOf (copiesOf es n)
 
--- the same, sentence by sentence
+-- the same as `cellBy`, rule by rule
 pub record AsArrivals (c : Cell) (es : List Entry) (n : ℕ) : Type 0 where
   -- filled exactly if an accepted arrival had the full number
   pub filled : (e : Entry) → List·Memᴰ e es → e .full ≡ n → c ≡ Empty → ⊥
   pub only : (mark : ℕ) (time : Time) → c ≡ Filled mark time → (e : Entry) × (List·Memᴰ e es × (e .full ≡ n))
   -- with the first one's time
-  pub first : (mark : ℕ) (time : Time) (e : Entry) (rest : List Entry) → c ≡ Filled mark time → copiesOf es n ≡ e ∷ rest → time ≡ e .time
-  -- mark 3 if any of them bore it
-  pub ce : (mark : ℕ) (time : Time) (e : Entry) → c ≡ Filled mark time → List·Memᴰ e es → e .full ≡ n → e .mark ≡ 3 → mark ≡ 3
+  pub first : (mark : ℕ) (time : Time) (e : Entry) (rest : List Entry) → c ≡ Filled mark time → copiesOf es n ≡ e ∷ rest
+      → time ≡ e .time
+  -- ECN-CE if any of them carried it
+  pub ce : (mark : ℕ) (time : Time) (e : Entry) → c ≡ Filled mark time → List·Memᴰ e es → e .full ≡ n → e .mark ≡ congested → mark ≡ congested
   -- else the first one's mark
   pub other : (mark : ℕ) (time : Time) (e : Entry) (rest : List Entry) → c ≡ Filled mark time → copiesOf es n ≡ e ∷ rest
-      → ((d : Entry) → List·Memᴰ d es → d .full ≡ n → d .mark ≡ 3 → ⊥) → mark ≡ e .mark
+      → ((d : Entry) → List·Memᴰ d es → d .full ≡ n → d .mark ≡ congested → ⊥) → mark ≡ e .mark
+
+-- the lowest number of the lowest window of a stream
+abbrev pub lowestFull : ℕ
+lowestFull = sequenceNumbers - (cellsOfAPlace - 1)
 
 -- an entry's full number is one of a window, its mark one of the four, its time a 32-bit count
 abbrev pub EntryInRange : Entry → Type 0
-EntryInRange e = (63489 ≤ e .full) × ((e .mark ≤ 3) × TimeInRange (e .time))
+EntryInRange e = (lowestFull ≤ e .full) × ((e .mark ≤ congested) × TimeInRange (e .time))
 
 abbrev pub AcceptedInRange : Accepted → Type 0
-AcceptedInRange a = (a .number < 65536) × ((a .mark ≤ 3) × TimeInRange (a .time))
+AcceptedInRange a = (a .number < sequenceNumbers) × ((a .mark ≤ congested) × TimeInRange (a .time))

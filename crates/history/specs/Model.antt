@@ -1,23 +1,27 @@
--- The meaning as a machine of its own: each place is free, or holds a stream with its SSRC, its highest full number and its accepted arrivals. It has no cell and no ring.
+-- The meaning as a machine of its own, without cells and rings: each place is free, or holds a stream with
+-- its SSRC, its highest full number and its accepted arrivals.
 use Prim.Native.Nat.{ℕ, _+_, _%_, max}
 use mathlib.Core.Bool.{Bool, true, false, cond}
 use mathlib.Core.List.{List, [], _∷_, _++_}
 use lib.ListN.{length, getD, set, replicate}
 use lib.Dec.{eqb, ltb, leb}
+use Rattle.lists.specs.First.{firstFrom}
+use Rattle.lists.specs.declared.Found.{Found}
 use Rattle.refusal.specs.declared.Refusal.{Refusal}
-use Rattle.refusal.specs.declared.Refusal.the-variants.{BadMark, NoFreePlace, TooOld, NotHeld}
 use Rattle.metric.specs.declared.Time.{Time}
-use Rattle.window.specs.First.{firstFrom}
-use Rattle.window.specs.declared.Found.{Found}
-use Rattle.window.specs.declared.Found.the-variants.{At, Nothing}
 use Rattle.store.specs.declared.Arrival.{Arrival}
-use Rattle.store.specs.declared.Arrival.the-variants as arrival
 use Rattle.store.specs.declared.Forgetting.{Forgetting}
-use Rattle.store.specs.declared.Forgetting.the-variants as forgetting
 use Rattle.store.specs.declared.PlaceAnswer.{PlaceAnswer}
-use Rattle.store.specs.declared.PlaceAnswer.the-variants as answer
 use Rattle.history.specs.Calls.{Call, arrive, forget, Answer, toArrival, toForgetting, run, answers}
 use Rattle.history.specs.Meaning.{Entry, fullOf, firstFull}
+use Rattle.metric.specs.Metric.{congested}
+use Rattle.window.specs.Number.{sequenceNumbers}
+use Rattle.window.specs.Ring.{cellsOfAPlace}
+use Rattle.refusal.specs.declared.Refusal.the-variants.{BadMark, NoFreePlace, TooOld, NotHeld}
+use Rattle.lists.specs.declared.Found.the-variants.{At, Nothing}
+use Rattle.store.specs.declared.Arrival.the-variants as arrival
+use Rattle.store.specs.declared.Forgetting.the-variants as forgetting
+use Rattle.store.specs.declared.PlaceAnswer.the-variants as answer
 
 pub data Place : Type 0 where
   free : Place
@@ -66,7 +70,7 @@ addedAt ps k ssrc full mark time = record {
 -- too old: the full number is below the window of the 2,048 highest
 unfoldable pub laterAt : List Place → ℕ → ℕ → ℕ → ℕ → Time → Arrived
 laterAt ps k ssrc full mark time =
-    cond (leb (full + 2048) (highestIn (at ps k))) (refusedIn TooOld ps) (addedAt ps k ssrc full mark time)
+    cond (leb (full + cellsOfAPlace) (highestIn (at ps k))) (refusedIn TooOld ps) (addedAt ps k ssrc full mark time)
 
 abbrev pub startedIn : Found → List Place → ℕ → ℕ → ℕ → Time → Arrived
 startedIn (At k) ps ssrc number mark time = addedAt ps k ssrc (firstFull number) mark time
@@ -79,7 +83,7 @@ arrivedIn Nothing ps ssrc number mark time = startedIn (vacantIn ps) ps ssrc num
 -- an arrival: refusals 1, then 3 or 2
 abbrev pub modelArrived : List Place → ℕ → ℕ → ℕ → Time → Arrived
 modelArrived ps ssrc number mark time =
-    cond (ltb 3 mark) (refusedIn BadMark ps) (arrivedIn (findIn ps ssrc) ps ssrc number mark time)
+    cond (ltb congested mark) (refusedIn BadMark ps) (arrivedIn (findIn ps ssrc) ps ssrc number mark time)
 
 pub record Forgot : Type 0 where
   pub answer : Forgetting
@@ -96,9 +100,9 @@ modelForgot ps ssrc = forgotAt (findIn ps ssrc) ps
 -- which stream and highest number a place holds: refusal 5
 abbrev pub modelPlace : Place → PlaceAnswer
 modelPlace free = answer.Refused NotHeld
-modelPlace (stream ssrc top es) = answer.Stream ssrc (top % 65536)
+modelPlace (stream ssrc top es) = answer.Stream ssrc (top % sequenceNumbers)
 
--- the machine, from a number of free places on
+-- the machine: each call in turn, starting with a number of free places
 abbrev pub modelStep : List Place → Call → List Place
 modelStep ps (arrive ssrc number mark time) = modelArrived ps ssrc number mark time .places
 modelStep ps (forget ssrc) = modelForgot ps ssrc .places

@@ -3,21 +3,25 @@ use Prim.Native.Nat.{ℕ, _+_, _%_, _≤_, _<_}
 use mathlib.Core.Path.{_≡_}
 use mathlib.Core.List.{List}
 use lib.ListN.{length}
-use Rattle.refusal.specs.Lists.{All}
-use Rattle.store.specs.Place.{placeAt}
-use Rattle.store.specs.Cell.{readCell, cellAt}
-use Rattle.store.specs.Store.{Shaped}
-use Rattle.store.specs.declared.Holding.{Holding}
-use Rattle.store.specs.declared.Holding.the-variants.{Free, Held}
+use Rattle.lists.specs.All.{All}
+use Rattle.places.specs.Place.{placeAt}
+use Rattle.places.specs.Window.{cellAt}
+use Rattle.places.specs.Shape.{Shaped}
+use Rattle.places.specs.declared.Holding.{Holding}
+use Rattle.cells.specs.Cell.{readCell}
 use Rattle.history.specs.Calls.{Store}
 use Rattle.history.specs.Meaning.{Entry, cellBy, EntryInRange}
 use Rattle.history.specs.Model.{Place, free, stream, at}
+use Rattle.window.specs.Number.{sequenceNumbers}
+use Rattle.window.specs.Ring.{cellsOfAPlace}
+use Rattle.places.specs.declared.Holding.the-variants.{Free, Held}
 
--- the place k of a store, read as h, with its cells, has the stream's SSRC, its highest full number and its entries
+-- the place k of a store, read as h, with its cells, has the stream's SSRC, its highest full number and its
+-- entries
 pub record Holds (cells : List ℕ) (k : ℕ) (h : Holding) (ssrc top : ℕ) (es : List Entry) : Type 0 where
-  pub place : h ≡ Held ssrc (top % 65536)
-  pub window : (n : ℕ) → n ≤ top → top < n + 2048 → readCell (cellAt cells k n) ≡ cellBy es n
-  pub begun : 65536 ≤ top
+  pub place : h ≡ Held ssrc (top % sequenceNumbers)
+  pub window : (n : ℕ) → n ≤ top → top < n + cellsOfAPlace → readCell (cellAt cells k n) ≡ cellBy es n
+  pub begun : sequenceNumbers ≤ top
   pub highest : All (λ (e : Entry). e .full ≤ top) es
   pub inRange : All EntryInRange es
 

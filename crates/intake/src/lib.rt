@@ -3,21 +3,26 @@ ghost use mathlib.Core.Path.{_≡_};
 ghost use Prim.Native.Nat.{_/_, _≤_};
 ghost use lib.ListN.{length, drop};
 ghost use lib.Seq.{sets};
-ghost use Rattle.arrival_file.specs.Pieces.{feeding, taken, advanced};
-ghost use Rattle.intake.specs.Intake.{lastKnown, recorded, entered, TakenTo, starting, outcome, fedOf};
+ghost use Rattle.arrival_file.specs.File.{recordOctets};
+ghost use Rattle.arrival_file.specs.Pieces.{taken, takenHere};
+ghost use Rattle.intake.specs.Intake.{lastKnown, recorded, afterRecord, atStart, intakeAfter, fedOf};
+ghost use Rattle.intake.specs.Steps.{TakenTo};
 use arrival_file::Check;
-use arrival_file::Entry;
+use arrival_file::FILE_HEADER_OCTETS;
 use arrival_file::Phase;
+use arrival_file::RECORD_OCTETS;
+use arrival_file::RecordRead;
 use metric::Time;
 
-// Where the taking of a file stands: its phase, the last known time so far, else 0, and how many octets are not taken yet.
+// Where the taking of a file stands: its phase, RTS (the last known time so far, else 0), and how many octets are not
+// taken yet.
 pub struct Intake {
     pub phase: Phase,
     pub rts: u32,
     pub left: usize,
 }
 
-// How far the octets at hand were taken.
+// How far the octets at hand were taken: `at` is the offset of the first that was not.
 pub struct Taken {
     pub phase: Phase,
     pub rts: u32,
@@ -26,7 +31,7 @@ pub struct Taken {
 
 // Before the first piece.
 pub fn start() -> Intake
-    ensures { λ r. ⌜ r ≡ starting ⌝ }
+    ensures value { λ r. ⌜ r ≡ atStart ⌝ }
 {
     Intake {
         phase: Phase::Header,
@@ -35,8 +40,9 @@ pub fn start() -> Intake
     }
 }
 
+// RTS after a record with this time.
 fn last_known(rts: u32, time: Time) -> u32
-    ensures { λ r. ⌜ r ≡ lastKnown rts time ⌝ }
+    ensures value { λ r. ⌜ r ≡ lastKnown rts time ⌝ }
 {
     match time {
         Time::Unknown => rts,
@@ -44,23 +50,26 @@ fn last_known(rts: u32, time: Time) -> u32
     }
 }
 
-// Takes the whole records from an offset on, up to the first with a fault.
+// Takes the whole records starting at an offset, up to the first with a fault.
 fn take_records(places: &mut [u64], cells: &mut [u64], s: &[u8], from: usize, rts: u32) -> Taken
-    requires { ⌜ from ≤ length (now s) ⌝ }
-    ensures { λ r. ⌜ TakenTo (now (places .exit)) (now (cells .exit)) (now (s .entry)) r (taken entered (length (drop from (now (s .entry))) / 12) (recorded (now (places .entry)) (now (cells .entry)) rts) (drop from (now (s .entry)))) ⌝ }
+    requires within { ⌜ from ≤ length (now s) ⌝ }
+    ensures after { λ r. ⌜
+        TakenTo (now (places .exit)) (now (cells .exit)) (now (s .entry)) r
+        (taken afterRecord (length (drop from (now (s .entry))) / recordOctets)
+        (recorded (now (places .entry)) (now (cells .entry)) rts) (drop from (now (s .entry)))) ⌝ }
 {
     let mut at = from;
     let mut last = rts;
-    while 12 <= s.len() - at {
+    while RECORD_OCTETS <= s.len() - at {
         let here = arrival_file::read_record(&s[at..]);
         match here {
-            Entry::Record(r) => {
+            RecordRead::Record(r) => {
                 let time = r.time;
                 store::arrive(places, cells, r.ssrc, r.number, r.mark, time);
                 last = last_known(last, time);
-                at += 12;
+                at += RECORD_OCTETS;
             }
-            Entry::Refused(e) => {
+            RecordRead::Refused(e) => {
                 return Taken {
                     phase: Phase::Faulty(e),
                     rts: last,
@@ -76,11 +85,13 @@ fn take_records(places: &mut [u64], cells: &mut [u64], s: &[u8], from: usize, rt
     }
 }
 
-// Takes the header, and the whole records behind it.
+// Takes the header, and the whole records after it.
 fn take_file(places: &mut [u64], cells: &mut [u64], s: &[u8], rts: u32) -> Taken
-    ensures { λ r. ⌜ TakenTo (now (places .exit)) (now (cells .exit)) (now (s .entry)) r (advanced entered Phase.Header (recorded (now (places .entry)) (now (cells .entry)) rts) (now (s .entry))) ⌝ }
+    ensures after { λ r. ⌜
+        TakenTo (now (places .exit)) (now (cells .exit)) (now (s .entry)) r
+        (takenHere afterRecord Phase.Header (recorded (now (places .entry)) (now (cells .entry)) rts) (now (s .entry))) ⌝ }
 {
-    if s.len() < 5 {
+    if s.len() < FILE_HEADER_OCTETS {
         return Taken {
             phase: Phase::Header,
             rts: rts,
@@ -89,7 +100,7 @@ fn take_file(places: &mut [u64], cells: &mut [u64], s: &[u8], rts: u32) -> Taken
     }
     let header = arrival_file::check_header(s);
     match header {
-        Check::Sound => take_records(places, cells, s, 5, rts),
+        Check::Sound => take_records(places, cells, s, FILE_HEADER_OCTETS, rts),
         Check::Refused(e) => Taken {
             phase: Phase::Faulty(e),
             rts: rts,
@@ -100,7 +111,9 @@ fn take_file(places: &mut [u64], cells: &mut [u64], s: &[u8], rts: u32) -> Taken
 
 // Takes what is whole of the octets at hand.
 fn take(places: &mut [u64], cells: &mut [u64], s: &[u8], phase: Phase, rts: u32) -> Taken
-    ensures { λ r. ⌜ TakenTo (now (places .exit)) (now (cells .exit)) (now (s .entry)) r (advanced entered phase (recorded (now (places .entry)) (now (cells .entry)) rts) (now (s .entry))) ⌝ }
+    ensures after { λ r. ⌜
+        TakenTo (now (places .exit)) (now (cells .exit)) (now (s .entry)) r
+        (takenHere afterRecord phase (recorded (now (places .entry)) (now (cells .entry)) rts) (now (s .entry))) ⌝ }
 {
     match phase {
         Phase::Header => take_file(places, cells, s, rts),
@@ -113,10 +126,10 @@ fn take(places: &mut [u64], cells: &mut [u64], s: &[u8], phase: Phase, rts: u32)
     }
 }
 
-// Moves the octets from an offset on to the front.
+// Moves the octets that start at an offset to the front.
 fn move_to_front(s: &mut [u8], from: usize)
-    requires { ⌜ from ≤ length (now s) ⌝ }
-    ensures { λ _. ⌜ now (s .exit) ≡ sets (now (s .entry)) 0 (drop from (now (s .entry))) ⌝ }
+    requires within { ⌜ from ≤ length (now s) ⌝ }
+    ensures content { λ _. ⌜ now (s .exit) ≡ sets (now (s .entry)) 0 (drop from (now (s .entry))) ⌝ }
 {
     let mut i = 0;
     while i < s.len() - from {
@@ -125,9 +138,12 @@ fn move_to_front(s: &mut [u8], from: usize)
     }
 }
 
-// Takes the next piece of a file. `octets` are those that the pieces before left, and behind them the piece; those that are left now are moved to the front.
+// Takes the next piece of a file. `octets` are those that the pieces before left, and then the piece; those that are
+// left now are moved to the front.
 pub fn feed(places: &mut [u64], cells: &mut [u64], intake: Intake, octets: &mut [u8]) -> Intake
-    ensures { λ r. ⌜ outcome r (now (places .exit)) (now (cells .exit)) (now (octets .exit)) ≡ fedOf (now (places .entry)) (now (cells .entry)) intake (now (octets .entry)) ⌝ }
+    ensures after { λ r. ⌜
+        intakeAfter r (now (places .exit)) (now (cells .exit)) (now (octets .exit))
+        ≡ fedOf (now (places .entry)) (now (cells .entry)) intake (now (octets .entry)) ⌝ }
 {
     let before = intake.phase;
     let t = take(places, cells, octets, before, intake.rts);

@@ -9,15 +9,15 @@ use lib.ListN.{length, getD, set, take, drop, length-set, drop-of-length-le}
 use lib.Seq.{drop-cons, take-suc-set}
 use Rattle.refusal.specs.declared.Refusal.the-variants.{BadStore}
 use Rattle.window.specs.Number.{distanceOf}
-use Rattle.store.specs.Place.{readPlace}
-use Rattle.store.specs.Store.{shaped}
-use Rattle.store.specs.declared.Holding.{Holding}
-use Rattle.store.specs.declared.Holding.the-variants.{Free, Held}
+use Rattle.places.specs.Place.{readPlace}
+use Rattle.places.specs.Shape.{shaped, mostPlaces}
+use Rattle.places.specs.declared.Holding.{Holding}
 use Rattle.cutting.specs.declared.Request.{Request}
 use Rattle.line_text.specs.Text.{refusedLine}
 use Rattle.line.specs.Line.{newestFour, askedOf, newest, reportText}
+use Rattle.places.specs.declared.Holding.the-variants.{Free, Held}
 
--- the first n requests and those of the places from i on
+-- the first n requests, and those of the places starting at i
 abbrev pub gathered : List Request → ℕ → List ℕ → ℕ → List Request
 gathered requests n places i = take n requests ++ newest (drop i places)
 
@@ -36,7 +36,8 @@ module _ (places : List ℕ) (requests : List Request) (n i : ℕ) (there : i < 
       (append-assoc (take n requests) (newestFour ssrc highest ∷ []) (newest (drop (i + 1) places)))
 
 -- all places were read
-pub gather-all : (places : List ℕ) (requests : List Request) (n i : ℕ) (rs : List Request) → length places ≤ i → gathered requests n places i ≡ rs → take n requests ≡ rs
+pub gather-all : (places : List ℕ) (requests : List Request) (n i : ℕ) (rs : List Request)
+    → length places ≤ i → gathered requests n places i ≡ rs → take n requests ≡ rs
 unfolding newest
 gather-all places requests n i rs l e =
     let d : drop i places ≡ [] = drop-of-length-le places {i = i} l in
@@ -45,17 +46,23 @@ gather-all places requests n i rs l e =
 -- what a turn over the places keeps
 abbrev pub Gathering : List ℕ → List Request → ℕ → ℕ → Type 0
 Gathering places requests n i =
-    (i ≤ length places) × (length places ≤ 16) × (n ≤ i) × (length requests ≡ 16) × (gathered requests n places i ≡ newest places)
+    (i ≤ length places) × (length places ≤ mostPlaces) × (n ≤ i) × (length requests ≡ mostPlaces) × (gathered requests n places i ≡ newest places)
 
-module _ (places : List ℕ) (requests : List Request) (n i : ℕ) (g : Gathering places requests n i) (there : i < length places) (h : Holding) (read : h ≡ readPlace (getD places i 0)) (requests′ : List Request) (n′ : ℕ) where
+module _ (places : List ℕ) (requests : List Request) (n i : ℕ) (g : Gathering places requests n i)
+    (there : i < length places) (h : Holding) (read : h ≡ readPlace (getD places i 0)) (requests′ : List Request) (n′ : ℕ) where
   pub turn-free : h ≡ Free → requests′ ≡ requests → n′ ≡ n → Gathering places requests′ n′ (i + 1)
   turn-free e p q = rw (p, q) (omega arith, omega arith, omega arith, omega arith, gather-free places requests n i there h read e ∙ g .4)
 
   pub turn-held : (ssrc highest begin : ℕ) → h ≡ Held ssrc highest → begin ≡ distanceOf highest 3
       → requests′ ≡ set requests n (record { ssrc = ssrc; begin = begin; count = 4 }) → n′ ≡ n + 1 → Gathering places requests′ n′ (i + 1)
   turn-held ssrc highest begin e b p q =
-      rw (p, q)
-      (omega arith, omega arith, omega arith, simp length-set (omega arith), gather-held places requests n i there h read ssrc highest begin e b (omega arith) ∙ g .4)
+      rw (p, q) (
+        omega arith,
+        omega arith,
+        omega arith,
+        simp length-set (omega arith),
+        gather-held places requests n i there h read ssrc highest begin e b (omega arith) ∙ g .4,
+      )
 
 -- a store whose shape is wrong
 pub misshapen-text : (places cells : List ℕ) (rts : ℕ) → shaped places cells ≡ false → reportText places cells rts ≡ refusedLine BadStore

@@ -8,40 +8,41 @@ use borrow.Author.Tests.{le-ltb}
 use lib.ListN.{length, take, drop, length-take}
 use lib.Seq.{sets, sets-eq, take-at}
 use lib.Dec.{ltb}
-use Rattle.refusal.specs.Lists.{All}
+use Rattle.lists.specs.All.{All}
 use Rattle.refusal.specs.declared.Refusal.{Refusal}
-use Rattle.refusal.specs.declared.Refusal.the-variants.{BadStore, BadLimit, TooManyRequests}
-use Rattle.store.specs.Place.{readPlace}
-use Rattle.store.specs.Store.{shaped}
-use Rattle.store.specs.declared.Holding.{Holding}
-use Rattle.store.specs.declared.Holding.the-variants.{Free, Held}
-use Rattle.packet.specs.Packet as packet
-use Rattle.cutting.specs.Cutting.{Packet, Cutting, blockOctets, blocksOctets, packetOctets, wholeBlocks}
+use Rattle.octets.specs.Output.{OutputAfter, outputAfter}
+use Rattle.places.specs.Place.{readPlace}
+use Rattle.places.specs.Shape.{shaped, mostPlaces}
+use Rattle.places.specs.declared.Holding.{Holding}
+use Rattle.packet.specs.Sizes.{blockOctets, blocksOctets, packetFrame, packetOctets}
+use Rattle.cutting.specs.Cutting.{CutPacket, Cutting, wholeBlocks, streamOf, counts}
 use Rattle.cutting.specs.Plan.{onto, filledFrom, plan, totalOctets}
 use Rattle.cutting.specs.declared.Request.{Request}
-use Rattle.cutting.specs.declared.NextBlock.the-variants.{Whole}
 use Rattle.cutting.proofs.Plan.{next-whole, filled-none, filled-by, plan-none, plan-step}
-use Rattle.writer.specs.Packets.{metricIn, reportPacket, encodePackets, packetsFor}
-use Rattle.writer.specs.Requests.{checked}
-use Rattle.writer.specs.Written as writer
-use Rattle.writer.specs.declared.Verdict.{Verdict}
-use Rattle.writer.specs.declared.Verdict.the-variants.{Sound, Fault}
+use Rattle.requests.specs.Requests.{checked}
+use Rattle.requests.specs.declared.Verdict.{Verdict}
+use Rattle.blocks.specs.Packets.{storeMetric, reportPacket, encodePackets, packetsFor}
 use Rattle.writer.specs.declared.Answer.{Answer}
-use Rattle.writer.specs.declared.Answer.the-variants.{Written, Refused}
+use Rattle.writer.specs.Written.{putPackets, writingRefused, ifAllSound, written}
 use Rattle.writer.proofs.Packets.{length-report}
-use Rattle.cutting.specs.Cutting.{streamOf}
-use Rattle.line_text.specs.Text.{hexLine, refusedLine, Outcome, outcome, put}
-use Rattle.line_text.proofs.Writing.{length-line, length-refused}
 use Rattle.arrival_file.specs.File.{endOf}
 use Rattle.arrival_file.specs.declared.Check.{Check}
-use Rattle.arrival_file.specs.declared.Check.the-variants as check
 use Rattle.intake.specs.declared.Intake.{Intake}
-use Rattle.line.specs.Line.{askedOf, newest, linesOf, ifSound, reportText, finishedText}
+use Rattle.line_text.specs.Text.{hexLine, refusedLine, putText}
+use Rattle.line_text.proofs.Writing.{length-line, length-refused}
+use Rattle.line.specs.Line.{askedOf, newest, linesOf, ifReported, reportText, finishedText, lineLimit, lineRoom, lineSender, newestNumbers, packetRoom}
+use Rattle.refusal.specs.declared.Refusal.the-variants.{BadStore, BadLimit, TooManyRequests}
+use Rattle.places.specs.declared.Holding.the-variants.{Free, Held}
+use Rattle.packet.specs.Packet as packet
+use Rattle.cutting.specs.declared.NextBlock.the-variants.{Whole}
+use Rattle.requests.specs.declared.Verdict.the-variants.{Sound, Fault}
+use Rattle.writer.specs.declared.Answer.the-variants.{Written, Refused}
+use Rattle.arrival_file.specs.declared.Check.the-variants as check
 
 -- ---- the requests
 
 abbrev Four : List Request → Type 0
-Four rs = All (λ r. r .count ≡ 4) rs
+Four rs = All (λ r. r .count ≡ newestNumbers) rs
 
 asked-four : (h : Holding) (rs : List Request) → Four rs → Four (askedOf h rs)
 asked-four Free rs f = f
@@ -52,9 +53,10 @@ unfolding newest
 newest-four [] = tt
 newest-four (word ∷ places) = asked-four (readPlace word) (newest places) (newest-four places)
 
--- ---- the plan
+-- ---- the plan: a block of four numbers has 16 octets
 
-filled-all : (rs : List Request) (i room : ℕ) → Four rs → 16 * length rs ≤ room → filledFrom room (wholeBlocks i rs) ≡ record { packet = wholeBlocks i rs; rest = [] }
+filled-all : (rs : List Request) (i room : ℕ) → Four rs → 16 * length rs ≤ room
+    → filledFrom room (wholeBlocks i rs) ≡ record { packet = wholeBlocks i rs; rest = [] }
 filled-all [] i room f h = filled-none room
 filled-all (r ∷ rs) i room f h =
     let n : blockOctets (r .count) ≡ 16 = ap blockOctets (f .0) in
@@ -62,25 +64,27 @@ filled-all (r ∷ rs) i room f h =
     ∙ ap (λ q. onto (record { request = i; begin = r .begin; count = r .count }) q)
     (filled-all rs (suc i) (room - blockOctets (r .count)) (f .1) (omega arith))
 
-octets-all : (rs : List Request) (i : ℕ) → Four rs → blocksOctets (wholeBlocks i rs) ≡ 16 * length rs
+octets-all : (rs : List Request) (i : ℕ) → Four rs → blocksOctets (counts (wholeBlocks i rs)) ≡ 16 * length rs
 octets-all [] i f = refl
 octets-all (r ∷ rs) i f =
     let n : blockOctets (r .count) ≡ 16 = ap blockOctets (f .0) in
     omega (arith, octets-all rs (suc i) (f .1))
 
 -- at most one packet
-one-packet : (rs : List Request) → Four rs → length rs ≤ 16 → (length (plan 1200 rs) ≤ 1) × (totalOctets (plan 1200 rs) ≤ 268)
-one-packet [] f h = rw (plan-none 1200) (omega arith, omega arith)
+one-packet : (rs : List Request) → Four rs → length rs ≤ mostPlaces → (length (plan lineLimit rs) ≤ 1) × (totalOctets (plan lineLimit rs) ≤ packetRoom)
+one-packet [] f h = rw (plan-none lineLimit) (omega arith, omega arith)
 one-packet (r ∷ rs) f h =
-    let e : filledFrom 1188 (wholeBlocks 0 (r ∷ rs)) ≡ record { packet = wholeBlocks 0 (r ∷ rs); rest = [] } = filled-all (r ∷ rs) 0 1188 f (omega arith) in
-    rw (plan-step 1200 (record { request = 0; begin = r .begin; count = r .count }) (wholeBlocks 1 rs) (omega arith), e, plan-none 1200)
+    let room = lineLimit - packetFrame in
+    let e : filledFrom room (wholeBlocks 0 (r ∷ rs)) ≡ record { packet = wholeBlocks 0 (r ∷ rs); rest = [] } = filled-all (r ∷ rs) 0 room f (omega arith) in
+    rw (plan-step lineLimit (record { request = 0; begin = r .begin; count = r .count }) (wholeBlocks 1 rs) (omega arith), e, plan-none lineLimit)
     (omega arith, omega (arith, octets-all (r ∷ rs) 0 f))
 
 -- ---- the line
 
-module _ (of : Packet → packet.Packet) (size : (p : Packet) → length (packet.encodePacket (of p)) ≡ packetOctets p) where
+module _ (of : CutPacket → packet.Packet) (size : (p : CutPacket) → length (packet.encodePacket (of p)) ≡ packetOctets (counts p)) where
   one-line : (c : Cutting) (out : List ℕ) → length c ≤ 1 → totalOctets c ≤ length out
-      → (length c ≡ 0 → linesOf (map of c) ≡ []) × ((length c ≡ 0 → ⊥) → linesOf (map of c) ≡ hexLine (take (totalOctets c) (sets out 0 (encodePackets (map of c)))))
+      → (length c ≡ 0 → linesOf (map of c) ≡ [])
+      × ((length c ≡ 0 → ⊥) → linesOf (map of c) ≡ hexLine (take (totalOctets c) (sets out 0 (encodePackets (map of c)))))
   unfolding linesOf encodePackets
   one-line [] out l h = (λ z. refl, λ z. absurd (z refl))
   one-line (p ∷ []) out l h =
@@ -93,47 +97,53 @@ module _ (of : Packet → packet.Packet) (size : (p : Packet) → length (packet
 -- what the writer's answer and the octets of its output are to the text
 abbrev Says : Answer → List ℕ → List ℕ → Type 0
 Says (Written packets octets) exit text =
-    (octets ≤ 268) × ((packets ≡ 0 → text ≡ []) × ((packets ≡ 0 → ⊥) → text ≡ hexLine (take octets exit)))
+    (octets ≤ packetRoom) × ((packets ≡ 0 → text ≡ []) × ((packets ≡ 0 → ⊥) → text ≡ hexLine (take octets exit)))
 Says (Refused e) exit text = text ≡ refusedLine e
 
-module _ (places cells : List ℕ) (rts n : ℕ) (out : List ℕ) (rs : List Request) (few : n ≤ 16) (room : length out ≡ 268) (asked : rs ≡ newest places) (all : length rs ≤ 16) where
-  says-put : Says (writer.put (plan 1200 rs) (packetsFor places cells 241 rts 1200 rs) out .answer) (writer.put (plan 1200 rs) (packetsFor places cells 241 rts 1200 rs) out .output) (linesOf (packetsFor places cells 241 rts 1200 rs))
-  unfolding writer.put
+module _ (places cells : List ℕ) (rts n : ℕ) (out : List ℕ) (rs : List Request) (few : n ≤ mostPlaces)
+    (room : length out ≡ packetRoom) (asked : rs ≡ newest places) (all : length rs ≤ mostPlaces) where
+  says-put : Says (putPackets (plan lineLimit rs) (packetsFor places cells lineSender rts lineLimit rs) out .answer)
+      (putPackets (plan lineLimit rs) (packetsFor places cells lineSender rts lineLimit rs) out .output) (linesOf (packetsFor places cells lineSender rts lineLimit rs))
+  unfolding putPackets
   says-put =
       let four : Four rs = rw asked (newest-four places) in
       let one = one-packet rs four all in
-      rw (le-ltb (length out) (totalOctets (plan 1200 rs)) (omega (arith, one .1)))
-      (one .1, one-line (reportPacket (λ i. metricIn places cells rts (streamOf rs i)) rs 241 rts) (length-report (λ i. metricIn places cells rts (streamOf rs i)) rs 241 rts) (plan 1200 rs) out (one .0) (omega (arith, one .1)))
+      rw (le-ltb (length out) (totalOctets (plan lineLimit rs)) (omega (arith, one .1))) (
+        one .1,
+        one-line (reportPacket (λ i. storeMetric places cells rts (streamOf rs i)) rs lineSender rts)
+            (length-report (λ i. storeMetric places cells rts (streamOf rs i)) rs lineSender rts) (plan lineLimit rs) out (one .0) (omega (arith, one .1)),
+      )
 
   says-by : (b : Bool) (v : Verdict)
-      → let w : writer.Outcome =
+      → let w : OutputAfter Answer =
       cond b
-      (cond (ltb 1200 24) (writer.refused BadLimit out)
-      (cond (ltb 9000 1200) (writer.refused BadLimit out)
-      (cond (ltb 16 n) (writer.refused TooManyRequests out)
-      (writer.ifSound v (writer.put (plan 1200 rs) (packetsFor places cells 241 rts 1200 rs) out) out))))
-      (writer.refused BadStore out) in
-      Says (w .answer) (w .output) (cond b (ifSound v (linesOf (packetsFor places cells 241 rts 1200 rs))) (refusedLine BadStore))
-  says-by true Sound = rw (le-ltb 16 n few) says-put
-  says-by true (Fault e) = rw (le-ltb 16 n few) refl
+      (cond (ltb lineLimit 24) (writingRefused BadLimit out)
+      (cond (ltb 9000 lineLimit) (writingRefused BadLimit out)
+      (cond (ltb mostPlaces n) (writingRefused TooManyRequests out)
+      (ifAllSound v (putPackets (plan lineLimit rs) (packetsFor places cells lineSender rts lineLimit rs) out) out))))
+      (writingRefused BadStore out) in
+      Says (w .answer) (w .output) (cond b (ifReported v (linesOf (packetsFor places cells lineSender rts lineLimit rs))) (refusedLine BadStore))
+  says-by true Sound = rw (le-ltb mostPlaces n few) says-put
+  says-by true (Fault e) = rw (le-ltb mostPlaces n few) refl
   says-by false v = refl
 
   -- the writer's answer says what is printed
-  says-written : (a : Answer) (exit : List ℕ) → writer.outcome a exit ≡ writer.written places cells 241 rts 1200 n rs out → Says a exit (reportText places cells rts)
-  unfolding writer.written reportText
+  says-written : (a : Answer) (exit : List ℕ) → outputAfter a exit ≡ written places cells lineSender rts lineLimit n rs out → Says a exit (reportText places cells rts)
+  unfolding written reportText
   says-written a exit e =
-      subst (λ (w : writer.Outcome). Says (w .answer) (w .output) (reportText places cells rts)) (sym e)
+      subst (λ (w : OutputAfter Answer). Says (w .answer) (w .output) (reportText places cells rts)) (sym e)
       (rw (← asked) (says-by (shaped places cells) (checked places [] rs)))
 
 -- the same of an answer that the code has in hand
 pub record Said (a : Answer) (exit text : List ℕ) : Type 0 where
-  pub room : (packets octets : ℕ) → a ≡ Written packets octets → octets ≤ 268
+  pub room : (packets octets : ℕ) → a ≡ Written packets octets → octets ≤ packetRoom
   pub none : (packets octets : ℕ) → a ≡ Written packets octets → packets ≡ 0 → text ≡ []
   pub line : (packets octets : ℕ) → a ≡ Written packets octets → (packets ≡ 0 → ⊥) → text ≡ hexLine (take octets exit)
   pub refused : (q : Refusal) → a ≡ Refused q → text ≡ refusedLine q
 
-pub said : (places cells : List ℕ) (rts n : ℕ) (out : List ℕ) (requests : List Request) → n ≤ 16 → 268 ≡ length out → take n requests ≡ newest places → (a : Answer) (exit : List ℕ)
-    → writer.outcome a exit ≡ writer.written places cells 241 rts 1200 n (take n requests) out → Said a exit (reportText places cells rts)
+pub said : (places cells : List ℕ) (rts n : ℕ) (out : List ℕ) (requests : List Request) → n ≤ mostPlaces
+    → packetRoom ≡ length out → take n requests ≡ newest places → (a : Answer) (exit : List ℕ)
+    → outputAfter a exit ≡ written places cells lineSender rts lineLimit n (take n requests) out → Said a exit (reportText places cells rts)
 said places cells rts n out requests few room asked a exit e =
     record {
       room = λ p o is. says (Written p o) is .0;
@@ -149,23 +159,29 @@ said places cells rts n out requests few room asked a exit e =
 
 -- ---- what is written
 
-pub line-room : (o : ℕ) (exit out : List ℕ) → o ≤ 268 → 537 ≤ length out → 2 * length (take o exit) + 1 ≤ length out
+pub line-room : (o : ℕ) (exit out : List ℕ) → o ≤ packetRoom → lineRoom ≤ length out → 2 * length (take o exit) + 1 ≤ length out
 line-room o exit out h l = omega (arith, length-take o exit)
 
 module _ (out text : List ℕ) where
-  pub put-nothing : text ≡ [] → (outcome 0 out ≡ put out text) × (0 ≤ 537)
+  pub put-nothing : text ≡ [] → (outputAfter 0 out ≡ putText out text) × (0 ≤ lineRoom)
   put-nothing e = (rw e, omega arith)
 
   module _ (r : ℕ) (exit : List ℕ) where
-    pub put-refused : (q : Refusal) → text ≡ refusedLine q → outcome r exit ≡ put out (refusedLine q) → (outcome r exit ≡ put out text) × (r ≤ 537)
-    put-refused q e h = (rw e h, let n : r ≡ length (refusedLine q) = ap (λ (x : Outcome). x .octets) h in omega (arith, length-refused q))
+    pub put-refused : (q : Refusal) → text ≡ refusedLine q → outputAfter r exit ≡ putText out (refusedLine q)
+        → (outputAfter r exit ≡ putText out text) × (r ≤ lineRoom)
+    put-refused q e h = (rw e h, let n : r ≡ length (refusedLine q) = ap (λ (x : OutputAfter ℕ). x .answer) h in omega (arith, length-refused q))
 
-    pub put-packet : (o : ℕ) (packet : List ℕ) → o ≤ 268 → text ≡ hexLine (take o packet) → outcome r exit ≡ put out (hexLine (take o packet)) → (outcome r exit ≡ put out text) × (r ≤ 537)
-    put-packet o packet l e h =
-        (rw e h, let n : r ≡ length (hexLine (take o packet)) = ap (λ (x : Outcome). x .octets) h in omega (arith, length-line (take o packet), length-take o packet))
+    pub put-packet : (o : ℕ) (packet : List ℕ) → o ≤ packetRoom → text ≡ hexLine (take o packet)
+        → outputAfter r exit ≡ putText out (hexLine (take o packet)) → (outputAfter r exit ≡ putText out text) × (r ≤ lineRoom)
+    put-packet o packet l e h = (
+      rw e h,
+      let n : r ≡ length (hexLine (take o packet)) = ap (λ (x : OutputAfter ℕ). x .answer) h in
+          omega (arith, length-line (take o packet), length-take o packet),
+    )
 
     -- the same text
-    pub put-as : (other : List ℕ) → text ≡ other → (outcome r exit ≡ put out other) × (r ≤ 537) → (outcome r exit ≡ put out text) × (r ≤ 537)
+    pub put-as : (other : List ℕ) → text ≡ other → (outputAfter r exit ≡ putText out other) × (r ≤ lineRoom)
+        → (outputAfter r exit ≡ putText out text) × (r ≤ lineRoom)
     put-as other e h = (rw e (h .0), h .1)
 
 -- ---- the end of a file

@@ -1,35 +1,57 @@
-// What ccfbline prints, once all of an arrival file was taken.
+// What ccfbline prints once all of an arrival file was taken: one packet of feedback on the newest numbers of each
+// stream, or a refusal.
 ghost use mathlib.Core.Path.{_≡_};
 ghost use Prim.Native.Nat.{_≤_};
 ghost use lib.ListN.{length, take};
-ghost use Rattle.line_text.specs.Text.{outcome, put};
-ghost use Rattle.line.specs.Line.{newest, reportText, finishedText};
+ghost use Rattle.octets.specs.Output.{outputAfter};
+ghost use Rattle.places.specs.Shape.{mostPlaces};
+ghost use Rattle.line_text.specs.Text.{putText};
+ghost use Rattle.line.specs.Line.{newest, packetRoom, lineRoom, reportText, finishedText};
 ghost use Rattle.line.specs.Printed.{freshPlaces, freshCells};
 use arrival_file::Check;
 use cutting::Request;
 use intake::Intake;
+use places::Holding;
+use places::MOST_PLACES;
 use refusal::Refusal;
-use store::Holding;
+use window::CELLS_OF_A_PLACE;
 use writer::Answer;
 
+// The store of the program.
+const PLACES: usize = 4;
+
+// How many numbers of each stream are asked for, and how far before the highest they begin.
+const NEWEST: u16 = 4;
+
+const BACK: u16 = NEWEST - 1;
+
+// The SSRC of the packet's sender, and the packet's limit in octets.
+const SENDER: u32 = 0x000000F1;
+
+const LIMIT: usize = 1200;
+
+// Room for a packet on 16 streams, four numbers of each: 16 blocks of 16 octets, and 12 octets besides.
+const PACKET_ROOM: usize = 268;
+
 // A store of four places, each free.
-pub fn fresh_places() -> [u64; 4]
-    ensures { λ r. ⌜ r ≡ freshPlaces ⌝ }
+pub fn fresh_places() -> [u64; PLACES]
+    ensures value { λ r. ⌜ r ≡ freshPlaces ⌝ }
 {
-    [0; 4]
+    [0; PLACES]
 }
 
-pub fn fresh_cells() -> [u64; 8192]
-    ensures { λ r. ⌜ r ≡ freshCells ⌝ }
+// Its cells, each empty.
+pub fn fresh_cells() -> [u64; PLACES * CELLS_OF_A_PLACE]
+    ensures value { λ r. ⌜ r ≡ freshCells ⌝ }
 {
-    [0; 8192]
+    [0; PLACES * CELLS_OF_A_PLACE]
 }
 
-// Room for a packet on 16 streams, four numbers of each.
-fn packet_room() -> [u8; 268]
-    ensures { λ r. ⌜ 268 ≡ length r ⌝ }
+// Room for the packet.
+fn packet_room() -> [u8; PACKET_ROOM]
+    ensures room { λ r. ⌜ packetRoom ≡ length r ⌝ }
 {
-    [0u8; 268]
+    [0u8; PACKET_ROOM]
 }
 
 // Writes the report on the first n requests to the front of the output, as a line.
@@ -37,24 +59,20 @@ fn put_report(
     places: &[u64],
     cells: &[u64],
     rts: u32,
-    requests: [Request; 16],
+    requests: [Request; MOST_PLACES],
     n: usize,
     out: &mut [u8],
 ) -> usize
-    requires { ⌜ (n ≤ 16) × (take n requests ≡ newest (now places)) × (537 ≤ length (now out)) ⌝ }
-    ensures { λ r. ⌜ (outcome r (now (out .exit)) ≡ put (now (out .entry)) (reportText (now (places .entry)) (now (cells .entry)) rts)) × (r ≤ 537) ⌝ }
+    requires few { ⌜ n ≤ mostPlaces ⌝ }
+    requires asked { ⌜ take n requests ≡ newest (now places) ⌝ }
+    requires room { ⌜ lineRoom ≤ length (now out) ⌝ }
+    ensures after { λ r. ⌜
+        outputAfter r (now (out .exit))
+        ≡ putText (now (out .entry)) (reportText (now (places .entry)) (now (cells .entry)) rts) ⌝ }
+    ensures bound { λ r. ⌜ r ≤ lineRoom ⌝ }
 {
     let mut packet = packet_room();
-    let answer = writer::write(
-        places,
-        cells,
-        0x000000F1,
-        rts,
-        1200,
-        requests,
-        n,
-        &mut packet,
-    );
+    let answer = writer::write(places, cells, SENDER, rts, LIMIT, requests, n, &mut packet);
     match answer {
         Answer::Written { packets, octets } => {
             if packets == 0 {
@@ -69,10 +87,13 @@ fn put_report(
 
 // Asks for the newest four numbers of each stream, in place order.
 fn report(places: &[u64], cells: &[u64], rts: u32, out: &mut [u8]) -> usize
-    requires { ⌜ 537 ≤ length (now out) ⌝ }
-    ensures { λ r. ⌜ (outcome r (now (out .exit)) ≡ put (now (out .entry)) (reportText (now (places .entry)) (now (cells .entry)) rts)) × (r ≤ 537) ⌝ }
+    requires room { ⌜ lineRoom ≤ length (now out) ⌝ }
+    ensures after { λ r. ⌜
+        outputAfter r (now (out .exit))
+        ≡ putText (now (out .entry)) (reportText (now (places .entry)) (now (cells .entry)) rts) ⌝ }
+    ensures bound { λ r. ⌜ r ≤ lineRoom ⌝ }
 {
-    let sound = store::is_shaped(places, cells);
+    let sound = places::is_shaped(places, cells);
     if !sound {
         return line_text::put_refusal(out, Refusal::BadStore);
     }
@@ -80,17 +101,17 @@ fn report(places: &[u64], cells: &[u64], rts: u32, out: &mut [u8]) -> usize
         ssrc: 0,
         begin: 0,
         count: 0,
-    }; 16];
+    }; MOST_PLACES];
     let mut n = 0;
     let mut i = 0;
     while i < places.len() {
-        let here = store::read_place(places[i]);
+        let here = places::read_place(places[i]);
         match here {
             Holding::Held { ssrc, highest } => {
                 requests[n] = Request {
                     ssrc: ssrc,
-                    begin: window::distance(highest, 3),
-                    count: 4,
+                    begin: window::distance(highest, BACK),
+                    count: NEWEST,
                 };
                 n += 1;
             }
@@ -103,8 +124,11 @@ fn report(places: &[u64], cells: &[u64], rts: u32, out: &mut [u8]) -> usize
 
 // Writes what is to be printed to the front of the output, which has room for a line on 16 streams: how many octets.
 pub fn finish(places: &[u64], cells: &[u64], intake: Intake, out: &mut [u8]) -> usize
-    requires { ⌜ 537 ≤ length (now out) ⌝ }
-    ensures { λ r. ⌜ (outcome r (now (out .exit)) ≡ put (now (out .entry)) (finishedText (now (places .entry)) (now (cells .entry)) intake)) × (r ≤ 537) ⌝ }
+    requires room { ⌜ lineRoom ≤ length (now out) ⌝ }
+    ensures after { λ r. ⌜
+        outputAfter r (now (out .exit))
+        ≡ putText (now (out .entry)) (finishedText (now (places .entry)) (now (cells .entry)) intake) ⌝ }
+    ensures bound { λ r. ⌜ r ≤ lineRoom ⌝ }
 {
     let phase = intake.phase;
     let end = arrival_file::check_end(phase, intake.left);

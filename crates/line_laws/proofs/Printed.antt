@@ -1,66 +1,72 @@
--- What ccfbline prints. Assumes nothing.
-use Prim.Native.Nat.{ℕ, _≤_}
+-- What ccfbline prints is what the definitions say, wherever the file is cut. Assumes nothing.
+use Prim.Native.Nat.{ℕ, _*_, _≤_}
 use mathlib.Core.Path.{_≡_, refl, sym, ap, _∙_, subst}
 use mathlib.Core.Bool.{true≢false}
 use mathlib.Core.Logic.{_⊎_, ⊎-elim}
 use mathlib.Core.List.{List, [], _∷_, _++_, append-nil, append-assoc, map, foldl, foldl-append, flatten}
 use native.Mathlib.Omega.{arith}
 use lib.ListN.{length, length-replicate}
-use Rattle.refusal.specs.Lists.{All}
+use Rattle.lists.specs.All.{All}
 use Rattle.refusal.specs.declared.Refusal.{Refusal}
+use Rattle.octets.specs.Output.{outputAfter}
+use Rattle.octets.specs.Octets.{Octets}
 use Rattle.metric.specs.declared.Time.{Time}
-use Rattle.metric.specs.declared.Time.the-variants.{Unknown, Known}
-use Rattle.store.specs.Place.{placeAt}
-use Rattle.store.specs.Store.{Shaped}
-use Rattle.store.specs.Store as store
-use Rattle.store.specs.declared.Holding.the-variants.{Held}
-use Rattle.store.proofs.Shape.{shaped-is}
+use Rattle.places.specs.Place.{placeAt}
+use Rattle.places.specs.Shape.{Shaped, Misshapen}
+use Rattle.places.specs.Window.{StoreAfter}
+use Rattle.places.proofs.Shape.{shaped-is, misshapen-is}
+use Rattle.store.specs.Store.{arrived}
+use Rattle.store.specs.declared.Arrival.{Arrival}
 use Rattle.history.specs.Calls.{Store, CallInRange, storeRun}
 use Rattle.history.specs.Reading.{Fresh}
-use Rattle.history.specs.Refusals as given
 use Rattle.history.proofs.Simulation.{zeroed-fresh}
 use Rattle.history.proofs.ByHistory.{same-reading, no-ssrc-twice}
-use Rattle.history.proofs.Refusals.{misshapen-is, arrival-given}
-use Rattle.writer.specs.declared.Verdict.the-variants.{Sound}
+use Rattle.history.proofs.Refusals.{arrival-given}
 use Rattle.arrival_file.specs.File.{Result, sound, faulty, endOf, fileOf}
-use Rattle.arrival_file.specs.Pieces.{resultOf, ended, allTaken, advanced}
-use Rattle.arrival_file.specs.declared.Phase.the-variants.{Faulty}
+use Rattle.arrival_file.specs.Pieces.{resultOf, ended, allTaken, takenHere}
 use Rattle.arrival_file.specs.declared.Record.{Record}
 use Rattle.arrival_file.specs.declared.Check.{Check}
-use Rattle.arrival_file.specs.declared.Check.the-variants as check
-use Rattle.intake.specs.Intake as intake
-use Rattle.intake.specs.Intake.{Recorded, recorded, lastKnown, entered, leftOf, fedNext, heldIn}
-use Rattle.intake.proofs.Pieces.{all-calls, calls-left}
+use Rattle.intake.specs.Intake.{Recorded, recorded, lastKnown, afterRecord, leftOf, fedNext, heldIn}
 use Rattle.intake.specs.declared.Intake.{Intake}
-use Rattle.line_text.specs.Text.{refusedLine, outcome, put}
+use Rattle.intake.proofs.Pieces.{all-calls, calls-left}
+use Rattle.line_text.specs.Text.{refusedLine, putText}
 use Rattle.line.specs.Line.{reportText, ifWhole, finishedText}
-use Rattle.line.specs.Printed.{freshPlaces, freshCells, fresh, reportOf, printedOf, printed}
-use Rattle.line_laws.specs.Laws.{Octets, Answered, LastTime, fedPieces}
+use Rattle.line.specs.Printed.{freshPlaces, freshCells, fresh, reportOf, printedOf, printed, linePlaces}
+use Rattle.line_laws.specs.Laws.{Answered, LastTime, fedPieces}
 use Rattle.line_laws.proofs.Records.{callOf, InRange, file-range, calls-range}
 use Rattle.line_laws.proofs.Streams.{sound-requests}
+use Rattle.metric.specs.Metric.{congested}
+use Rattle.window.specs.Ring.{cellsOfAPlace}
+use Rattle.metric.specs.declared.Time.the-variants.{Unknown, Known}
+use Rattle.places.specs.declared.Holding.the-variants.{Held}
+use Rattle.history.specs.Refusals as given
+use Rattle.requests.specs.declared.Verdict.the-variants.{Sound}
+use Rattle.arrival_file.specs.declared.Phase.the-variants.{Faulty}
+use Rattle.arrival_file.specs.declared.Check.the-variants as check
+use Rattle.intake.specs.Intake as intake
 
 -- ---- the store that the records make
 
 abbrev storeOf : Recorded → Store
 storeOf x = record { places = x .places; cells = x .cells }
 
-runs : (rs : List Record) (x : Recorded) → storeOf (foldl entered x rs) ≡ storeRun (storeOf x) (map callOf rs)
-unfolding entered
+runs : (rs : List Record) (x : Recorded) → storeOf (foldl afterRecord x rs) ≡ storeRun (storeOf x) (map callOf rs)
+unfolding afterRecord
 runs [] x = refl
-runs (r ∷ rs) x = runs rs (entered x r)
+runs (r ∷ rs) x = runs rs (afterRecord x r)
 
 fresh-store : Fresh (storeOf fresh)
-fresh-store = zeroed-fresh 4 freshCells (omega arith) (omega arith) (length-replicate {A = ℕ} 8192 0)
+fresh-store = zeroed-fresh linePlaces freshCells (omega arith) (omega arith) (length-replicate {A = ℕ} (linePlaces * cellsOfAPlace) 0)
 
 -- it is sound, and no SSRC is in two places
 pub record Reached (x : Recorded) : Type 0 where
   pub shape : Shaped (x .places) (x .cells)
   pub once : (ssrc p q h g : ℕ) → placeAt (x .places) p ≡ Held ssrc h → placeAt (x .places) q ≡ Held ssrc g → p ≡ q
 
-pub reached : (rs : List Record) → All InRange rs → Reached (foldl entered fresh rs)
+pub reached : (rs : List Record) → All InRange rs → Reached (foldl afterRecord fresh rs)
 reached rs range =
     let calls : All CallInRange (map callOf rs) = calls-range rs range in
-    let is : storeRun (storeOf fresh) (map callOf rs) ≡ storeOf (foldl entered fresh rs) = sym (runs rs fresh) in
+    let is : storeRun (storeOf fresh) (map callOf rs) ≡ storeOf (foldl afterRecord fresh rs) = sym (runs rs fresh) in
     record {
       shape = subst (λ (st : Store). Shaped (st .places) (st .cells)) is (same-reading (storeOf fresh) fresh-store (map callOf rs) calls .shape);
       once =
@@ -79,35 +85,41 @@ abbrev textOf : Result Recorded → List ℕ
 textOf (sound x) = reportText (x .places) (x .cells) (x .rts)
 textOf (faulty e) = refusedLine e
 
-finished-is : (o : intake.Outcome) → length (leftOf o) ≡ o .intake .left → finishedText (o .places) (o .cells) (o .intake) ≡ textOf (ended (heldIn o))
+finished-is : (o : intake.IntakeAfter) → length (leftOf o) ≡ o .intake .left
+    → finishedText (o .places) (o .cells) (o .intake) ≡ textOf (ended (heldIn o))
 unfolding finishedText
 finished-is o e =
     ap (λ (n : ℕ). ifWhole (endOf (o .intake .phase) n) (reportText (o .places) (o .cells) (o .intake .rts))) (sym e)
     ∙ go (endOf (o .intake .phase) (length (leftOf o)))
   where
-    go : (v : Check) → ifWhole v (reportText (o .places) (o .cells) (o .intake .rts)) ≡ textOf (resultOf v (recorded (o .places) (o .cells) (o .intake .rts)))
+    go : (v : Check) → ifWhole v (reportText (o .places) (o .cells) (o .intake .rts))
+        ≡ textOf (resultOf v (recorded (o .places) (o .cells) (o .intake .rts)))
     go check.Sound = refl
     go (check.Refused e) = refl
 
-whole-is : (s : List ℕ) → Octets s → textOf (allTaken entered fresh (fileOf s)) ≡ printed s
+whole-is : (s : List ℕ) → Octets s → textOf (allTaken afterRecord fresh (fileOf s)) ≡ printed s
 unfolding printed
 whole-is s o = go (fileOf s) (λ rs e. file-range s rs o e)
   where
-    go : (f : Result (List Record)) → ((rs : List Record) → f ≡ sound rs → All InRange rs) → textOf (allTaken entered fresh f) ≡ printedOf f
-    go (sound rs) range = report-is (foldl entered fresh rs) (reached rs (range rs refl))
+    go : (f : Result (List Record)) → ((rs : List Record) → f ≡ sound rs → All InRange rs) → textOf (allTaken afterRecord fresh f) ≡ printedOf f
+    go (sound rs) range = report-is (foldl afterRecord fresh rs) (reached rs (range rs refl))
     go (faulty e) range = refl
 
--- Wherever a file of octets is cut into pieces: once they are fed, into a fresh store of four places, `finish` writes what is printed for the whole file.
-pub prints : (ps : List (List ℕ)) → Octets (flatten ps) → finishedText (fedPieces ps .places) (fedPieces ps .cells) (fedPieces ps .intake) ≡ printed (flatten ps)
+-- Wherever a file of octets is cut into pieces: once they are fed, into a fresh store of four places, `finish` writes
+-- what is printed for the whole file.
+pub prints : (ps : List (List ℕ)) → Octets (flatten ps)
+    → finishedText (fedPieces ps .places) (fedPieces ps .cells) (fedPieces ps .intake) ≡ printed (flatten ps)
 prints ps o =
-    finished-is (fedPieces ps) (calls-left (intake.outcome intake.starting freshPlaces freshCells []) ps refl)
+    finished-is (fedPieces ps) (calls-left (intake.intakeAfter intake.atStart freshPlaces freshCells []) ps refl)
     ∙ ap textOf (all-calls freshPlaces freshCells ps)
     ∙ whole-is (flatten ps) o
 
--- the contract of `finish`, after those calls: the output holds what is printed for the whole file, and the answer is its length
+-- the contract of `finish`, after those calls: the output holds what is printed for the whole file, and the answer is
+-- its length
 pub prints-output : (ps : List (List ℕ)) → Octets (flatten ps) → (out exit : List ℕ) (r : ℕ)
-    → outcome r exit ≡ put out (finishedText (fedPieces ps .places) (fedPieces ps .cells) (fedPieces ps .intake)) → outcome r exit ≡ put out (printed (flatten ps))
-prints-output ps o out exit r e = e ∙ ap (put out) (prints ps o)
+    → outputAfter r exit ≡ putText out (finishedText (fedPieces ps .places) (fedPieces ps .cells) (fedPieces ps .intake))
+    → outputAfter r exit ≡ putText out (printed (flatten ps))
+prints-output ps o out exit r e = e ∙ ap (putText out) (prints ps o)
 
 -- ---- a file is read no further than its first fault
 
@@ -115,8 +127,8 @@ faulty-text : (places cells : List ℕ) (i : Intake) (e : Refusal) → i .phase 
 unfolding finishedText
 faulty-text places cells i e h = rw h
 
-stays : (o : intake.Outcome) (s : List ℕ) (e : Refusal) → o .intake .phase ≡ Faulty e → fedNext o s .intake .phase ≡ Faulty e
-unfolding advanced
+stays : (o : intake.IntakeAfter) (s : List ℕ) (e : Refusal) → o .intake .phase ≡ Faulty e → fedNext o s .intake .phase ≡ Faulty e
+unfolding takenHere
 stays o s e h = rw h
 
 flatten-last : (ps : List (List ℕ)) (s : List ℕ) → flatten (ps ++ s ∷ []) ≡ flatten ps ++ s
@@ -129,8 +141,10 @@ pub prints-early : (ps : List (List ℕ)) (rest : List ℕ) (e : Refusal) → Oc
     → finishedText (fedPieces ps .places) (fedPieces ps .cells) (fedPieces ps .intake) ≡ printed (flatten ps ++ rest)
 prints-early ps rest e o h =
     let all : flatten (ps ++ rest ∷ []) ≡ flatten ps ++ rest = flatten-last ps rest in
-    let last : fedPieces (ps ++ rest ∷ []) ≡ fedNext (fedPieces ps) rest = foldl-append fedNext (intake.outcome intake.starting freshPlaces freshCells []) ps (rest ∷ []) in
-    let phase : fedPieces (ps ++ rest ∷ []) .intake .phase ≡ Faulty e = ap (λ (x : intake.Outcome). x .intake .phase) last ∙ stays (fedPieces ps) rest e h in
+    let last : fedPieces (ps ++ rest ∷ []) ≡ fedNext (fedPieces ps) rest =
+    foldl-append fedNext (intake.intakeAfter intake.atStart freshPlaces freshCells []) ps (rest ∷ []) in
+    let phase : fedPieces (ps ++ rest ∷ []) .intake .phase ≡ Faulty e = ap (λ (x : intake.IntakeAfter). x .intake .phase) last
+    ∙ stays (fedPieces ps) rest e h in
     faulty-text (fedPieces ps .places) (fedPieces ps .cells) (fedPieces ps .intake) e h
     ∙ sym (faulty-text (fedPieces (ps ++ rest ∷ []) .places) (fedPieces (ps ++ rest ∷ []) .cells) (fedPieces (ps ++ rest ∷ []) .intake) e phase)
     ∙ prints (ps ++ rest ∷ []) (subst Octets (sym all) o)
@@ -138,10 +152,11 @@ prints-early ps rest e o h =
 
 -- ---- no record is refused but with 2 or 3
 
-misshapen-not : (places cells : List ℕ) → Shaped places cells → given.Misshapen places cells → ⊥
+misshapen-not : (places cells : List ℕ) → Shaped places cells → Misshapen places cells → ⊥
 misshapen-not places cells s m = true≢false (sym (shaped-is places cells s) ∙ misshapen-is places cells m)
 
-answered-by : (places cells : List ℕ) (ssrc number mark : ℕ) (o : store.Outcome) → Shaped places cells → mark ≤ 3 → given.ArrivalGiven places cells ssrc number mark o → Answered (o .answer)
+answered-by : (places cells : List ℕ) (ssrc number mark : ℕ) (o : StoreAfter Arrival) → Shaped places cells
+    → mark ≤ congested → given.ArrivalGiven places cells ssrc number mark o → Answered (o .answer)
 answered-by places cells ssrc number mark o s m (given.ArrivalGiven.badStore w) = absurd (misshapen-not places cells s w)
 answered-by places cells ssrc number mark o s m (given.ArrivalGiven.badMark t h) = absurd (omega arith)
 answered-by places cells ssrc number mark o s m (given.ArrivalGiven.tooOld t l p high k q) = Answered.tooOld
@@ -155,18 +170,20 @@ all-before (q ∷ qs) r more h = let t = all-before qs r more (h .1) in ((h .0, 
 
 -- Each record of a file without fault, in the store that those before it have made, is accepted or passed over with 2 or 3.
 pub passed-over : (s : List ℕ) (qs : List Record) (r : Record) (more : List Record) → Octets s → fileOf s ≡ sound (qs ++ r ∷ more)
-    → let x : Recorded = foldl entered fresh qs in Answered (store.arrived (x .places) (x .cells) (r .ssrc) (r .number) (r .mark) (r .time) .answer)
+    → let x : Recorded = foldl afterRecord fresh qs in Answered (arrived (x .places) (x .cells) (r .ssrc) (r .number) (r .mark) (r .time) .answer)
 passed-over s qs r more o e =
     let range = all-before qs r more (file-range s (qs ++ r ∷ more) o e) in
-    let x : Recorded = foldl entered fresh qs in
-    answered-by (x .places) (x .cells) (r .ssrc) (r .number) (r .mark) (store.arrived (x .places) (x .cells) (r .ssrc) (r .number) (r .mark) (r .time)) (reached qs (range .0) .shape) (range .1 .0)
+    let x : Recorded = foldl afterRecord fresh qs in
+    answered-by (x .places) (x .cells) (r .ssrc) (r .number) (r .mark)
+    (arrived (x .places) (x .cells) (r .ssrc) (r .number) (r .mark) (r .time)) (reached qs (range .0) .shape) (range .1 .0)
     (arrival-given (x .places) (x .cells) (r .ssrc) (r .number) (r .mark) (r .time))
 
 -- ---- RTS
 
 -- a time is known, and it is the last
 data Last (rs : List Record) : ℕ → Type 0 where
-  at : (qs : List Record) (r : Record) (more : List Record) (t : ℕ) → rs ≡ qs ++ r ∷ more → r .time ≡ Known t → All (λ q. q .time ≡ Unknown) more → Last rs t
+  at : (qs : List Record) (r : Record) (more : List Record) (t : ℕ) → rs ≡ qs ++ r ∷ more → r .time ≡ Known t
+      → All (λ q. q .time ≡ Unknown) more → Last rs t
 
 last-later : (r : Record) (rs : List Record) (t : ℕ) → Last rs t → Last (r ∷ rs) t
 last-later r rs t (Last.at qs q more u e k h) = Last.at (r ∷ qs) q more u (ap (λ (l : List Record). r ∷ l) e) k h
@@ -174,17 +191,20 @@ last-later r rs t (Last.at qs q more u e k h) = Last.at (r ∷ qs) q more u (ap 
 last-time : (rs : List Record) (t : ℕ) → Last rs t → LastTime rs t
 last-time rs t (Last.at qs q more u e k h) = LastTime.last qs q more u e k h
 
-rts-from : (rs : List Record) (x : Recorded) → (All (λ r. r .time ≡ Unknown) rs × (foldl entered x rs .rts ≡ x .rts)) ⊎ Last rs (foldl entered x rs .rts)
-unfolding entered
+rts-from : (rs : List Record) (x : Recorded)
+    → (All (λ r. r .time ≡ Unknown) rs × (foldl afterRecord x rs .rts ≡ x .rts)) ⊎ Last rs (foldl afterRecord x rs .rts)
+unfolding afterRecord
 rts-from [] x = _⊎_.inl (tt, refl)
-rts-from (r ∷ rs) x = ⊎-elim (λ h. here (r .time) refl h) (λ h. _⊎_.inr (last-later r rs (foldl entered (entered x r) rs .rts) h)) (rts-from rs (entered x r))
+rts-from (r ∷ rs) x =
+    ⊎-elim (λ h. here (r .time) refl h) (λ h. _⊎_.inr (last-later r rs (foldl afterRecord (afterRecord x r) rs .rts) h)) (rts-from rs (afterRecord x r))
   where
-    here : (t : Time) → r .time ≡ t → All (λ q. q .time ≡ Unknown) rs × (foldl entered (entered x r) rs .rts ≡ lastKnown (x .rts) (r .time))
-        → (All (λ q. q .time ≡ Unknown) (r ∷ rs) × (foldl entered (entered x r) rs .rts ≡ x .rts)) ⊎ Last (r ∷ rs) (foldl entered (entered x r) rs .rts)
+    here : (t : Time) → r .time ≡ t → All (λ q. q .time ≡ Unknown) rs × (foldl afterRecord (afterRecord x r) rs .rts ≡ lastKnown (x .rts) (r .time))
+        → (All (λ q. q .time ≡ Unknown) (r ∷ rs) × (foldl afterRecord (afterRecord x r) rs .rts ≡ x .rts))
+        ⊎ Last (r ∷ rs) (foldl afterRecord (afterRecord x r) rs .rts)
     here Unknown e h = _⊎_.inl ((e, h .0), h .1 ∙ ap (lastKnown (x .rts)) e)
     here (Known t) e h = _⊎_.inr (subst (Last (r ∷ rs)) (sym (h .1 ∙ ap (lastKnown (x .rts)) e)) (Last.at [] r rs t refl e (h .0)))
 
 -- RTS is the last known time of the file's records, those passed over too, else 0.
-pub rts-is-last : (rs : List Record) → LastTime rs (foldl entered fresh rs .rts)
+pub rts-is-last : (rs : List Record) → LastTime rs (foldl afterRecord fresh rs .rts)
 rts-is-last rs =
-    ⊎-elim (λ h. subst (LastTime rs) (sym (h .1)) (LastTime.none (h .0))) (last-time rs (foldl entered fresh rs .rts)) (rts-from rs fresh)
+    ⊎-elim (λ h. subst (LastTime rs) (sym (h .1)) (LastTime.none (h .0))) (last-time rs (foldl afterRecord fresh rs .rts)) (rts-from rs fresh)

@@ -1,5 +1,5 @@
 -- The newest four numbers of each stream are sound requests where no SSRC is in two places. Assumes nothing.
-use Prim.Native.Nat.{ℕ, zero, suc, _+_, _<_}
+use Prim.Native.Nat.{ℕ, zero, suc, _+_, _-_, _<_}
 use mathlib.Core.Path.{_≡_, refl, sym, ap, _∙_}
 use mathlib.Core.Bool.{true, false}
 use mathlib.Core.List.{List, [], _∷_, _++_, append-nil}
@@ -7,18 +7,19 @@ use native.Mathlib.Omega.{arith}
 use borrow.Author.Tests.{lt-ltb, eq-eqb, ne-eqb}
 use lib.ListN.{length, getD, take, drop, length-take}
 use lib.Seq.{drop-cons, take-suc, drop-length, getD-take}
-use Rattle.window.specs.Number.{distanceOf}
-use Rattle.window.specs.declared.Found.the-variants.{At}
-use Rattle.window.proofs.First.{first-at}
-use Rattle.store.specs.Place.{readPlace, placeAt, highestAt, isStream, holds, findOf}
-use Rattle.store.specs.declared.Holding.{Holding}
-use Rattle.store.specs.declared.Holding.the-variants.{Free, Held}
+use Rattle.lists.proofs.First.{first-at}
+use Rattle.window.specs.Number.{distanceOf, sequenceNumbers}
+use Rattle.places.specs.Place.{readPlace, placeAt, highestAt, isStream, holds, findOf}
+use Rattle.places.specs.declared.Holding.{Holding}
+use Rattle.places.proofs.Held.{held-highest}
 use Rattle.cutting.specs.declared.Request.{Request}
-use Rattle.history.proofs.Places.{held-highest}
-use Rattle.writer.specs.Requests as requests
-use Rattle.writer.specs.declared.Checked.the-variants as checked
-use Rattle.writer.specs.declared.Verdict.the-variants.{Sound}
-use Rattle.line.specs.Line.{newestFour, askedOf, newest}
+use Rattle.line.specs.Line.{newestFour, askedOf, newest, newestNumbers}
+use Rattle.window.specs.Ring.{cellsOfAPlace}
+use Rattle.lists.specs.declared.Found.the-variants.{At}
+use Rattle.places.specs.declared.Holding.the-variants.{Free, Held}
+use Rattle.requests.specs.Requests as requests
+use Rattle.requests.specs.declared.Checked.the-variants as checked
+use Rattle.requests.specs.declared.Verdict.the-variants.{Sound}
 
 -- ---- lists of requests
 
@@ -32,7 +33,8 @@ newest-append (w ∷ ws) vs = go (readPlace w) (newest-append ws vs)
     go (Held ssrc highest) e = ap (λ (l : List Request). newestFour ssrc highest ∷ l) e
 
 -- a stream that no place of a list holds is named by no request of it
-not-named : (ws : List ℕ) (ssrc : ℕ) → ((j : ℕ) → j < length ws → isStream ssrc (readPlace (getD ws j 0)) ≡ false) → requests.named (newest ws) ssrc ≡ false
+not-named : (ws : List ℕ) (ssrc : ℕ) → ((j : ℕ) → j < length ws → isStream ssrc (readPlace (getD ws j 0)) ≡ false)
+    → requests.named (newest ws) ssrc ≡ false
 unfolding newest requests.named
 not-named [] ssrc none = refl
 not-named (w ∷ ws) ssrc none = go (readPlace w) (none 0 (omega arith)) (not-named ws ssrc (λ j l. none (suc j) (omega arith)))
@@ -43,11 +45,11 @@ not-named (w ∷ ws) ssrc none = go (readPlace w) (none 0 (omega arith)) (not-na
 
 -- ---- the window
 
-newest-in-window : (highest : ℕ) → highest < 65536 → requests.inWindow highest (distanceOf highest 3) 4 ≡ true
+newest-in-window : (highest : ℕ) → highest < sequenceNumbers → requests.inWindow highest (distanceOf highest (newestNumbers - 1)) newestNumbers ≡ true
 unfolding requests.inWindow
 newest-in-window highest h =
-    let d : distanceOf highest (distanceOf highest 3) ≡ 3 = omega arith in
-    simp (d, lt-ltb 3 2048 (omega arith))
+    let d : distanceOf highest (distanceOf highest (newestNumbers - 1)) ≡ 3 = omega arith in
+    simp (d, lt-ltb 3 cellsOfAPlace (omega arith))
 
 module _ (places : List ℕ) (once : (ssrc p q h g : ℕ) → placeAt places p ≡ Held ssrc h → placeAt places q ≡ Held ssrc g → p ≡ q) where
   -- another place holds another stream
@@ -68,7 +70,7 @@ module _ (places : List ℕ) (once : (ssrc p q h g : ℕ) → placeAt places p �
     unfolding requests.checkOf
     sound-here =
         let top : highestAt places i ≡ highest = held-highest (getD places i 0) ssrc highest here in
-        let low : highestAt places i < 65536 = omega arith in
+        let low : highestAt places i < sequenceNumbers = omega arith in
         let none : requests.named (newest (take i places)) ssrc ≡ false =
         not-named (take i places) ssrc (λ j l. ap (λ (w : ℕ). isStream ssrc (readPlace w)) (getD-take i places j 0 (omega (arith, length-take i places)))
         ∙ elsewhere i j ssrc highest here (λ z. omega (arith, length-take i places))) in
@@ -94,10 +96,12 @@ module _ (places : List ℕ) (once : (ssrc p q h g : ℕ) → placeAt places p �
       go : (h : Holding) → placeAt places i ≡ h → requests.checked places (newest (take (suc i) places)) (newest (drop (suc i) places)) ≡ Sound
           → requests.checked places (newest (take i places)) (askedOf h (newest (drop (suc i) places))) ≡ Sound
       go Free f r =
-          let t : newest (take (suc i) places) ≡ newest (take i places) = one-more i (omega arith) ∙ ap (λ (h : Holding). newest (take i places) ++ askedOf h []) f ∙ append-nil (newest (take i places)) in
+          let t : newest (take (suc i) places) ≡ newest (take i places) = one-more i (omega arith)
+          ∙ ap (λ (h : Holding). newest (take i places) ++ askedOf h []) f ∙ append-nil (newest (take i places)) in
           ap (λ (l : List Request). requests.checked places l (newest (drop (suc i) places))) (sym t) ∙ r
       go (Held ssrc highest) f r =
-          let t : newest (take (suc i) places) ≡ newest (take i places) ++ newestFour ssrc highest ∷ [] = one-more i (omega arith) ∙ ap (λ (h : Holding). newest (take i places) ++ askedOf h []) f in
+          let t : newest (take (suc i) places) ≡ newest (take i places) ++ newestFour ssrc highest ∷ [] = one-more i (omega arith)
+          ∙ ap (λ (h : Holding). newest (take i places) ++ askedOf h []) f in
           rw (sound-here i ssrc highest (omega arith) f) (ap (λ (l : List Request). requests.checked places l (newest (drop (suc i) places))) (sym t) ∙ r)
 
   -- the writer finds no fault in them

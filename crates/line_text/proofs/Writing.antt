@@ -9,16 +9,18 @@ use borrow.Author.Tests.{lt-ltb, le-ltb}
 use lib.Dec.{ltb, lit≤}
 use lib.ListN.{length, getD, set, drop, length-append, drop-of-length-le}
 use lib.Seq.{sets, drop-cons}
-use Rattle.octets.proofs.Sets.{sets-append}
 use Rattle.refusal.specs.declared.Refusal.{Refusal}
 use Rattle.refusal.specs.Numbers.{numberOf}
-use Rattle.line_text.specs.Text.{digitOf, hexOf, newline, hexLine, refusedText, refusedLine, outcome, put}
+use Rattle.octets.specs.Output.{outputAfter}
+use Rattle.octets.proofs.Sets.{sets-append}
+use Rattle.line_text.specs.Text.{digitOf, hexOf, newline, hexLine, refusedText, refusedLine, putText, refusalRoom, zeroDigit}
 
 -- ---- hex
 
 -- one octet more
 pub one-put : (out packet : List ℕ) (i : ℕ) → i < length packet
-    → sets (set (set out (2 * i) (digitOf (getD packet i 0 / 16))) (2 * i + 1) (digitOf (getD packet i 0 % 16))) (2 * (i + 1)) (hexOf (drop (i + 1) packet)) ≡ sets out (2 * i) (hexOf (drop i packet))
+    → sets (set (set out (2 * i) (digitOf (getD packet i 0 / 16))) (2 * i + 1) (digitOf (getD packet i 0 % 16))) (2 * (i + 1)) (hexOf (drop (i + 1) packet))
+    ≡ sets out (2 * i) (hexOf (drop i packet))
 unfolding hexOf
 one-put out packet i h =
     let n : 2 * (i + 1) ≡ suc (suc (2 * i)) = omega arith in
@@ -38,7 +40,8 @@ unfolding hexLine
 length-line packet = simp length-append (omega (arith, length-hex packet))
 
 -- the line of a packet, once its hex is written
-pub line-put : (out out′ packet : List ℕ) → out′ ≡ sets out 0 (hexOf packet) → outcome (2 * length packet + 1) (set out′ (2 * length packet) 10) ≡ put out (hexLine packet)
+pub line-put : (out out′ packet : List ℕ) → out′ ≡ sets out 0 (hexOf packet)
+    → outputAfter (2 * length packet + 1) (set out′ (2 * length packet) 10) ≡ putText out (hexLine packet)
 unfolding hexLine
 line-put out out′ packet e =
     let n : length (hexLine packet) ≡ 2 * length packet + 1 = length-line packet in
@@ -47,19 +50,20 @@ line-put out out′ packet e =
 
 -- ---- refusals
 
-pub length-refused : (e : Refusal) → length (refusedLine e) ≤ 11
+pub length-refused : (e : Refusal) → length (refusedLine e) ≤ refusalRoom
 unfolding refusedLine
 length-refused e = go (ltb (numberOf e) 10)
   where
-    go : (b : Bool) → length (refusedText ++ (cond b ((48 + numberOf e) ∷ []) ((48 + numberOf e / 10) ∷ (48 + numberOf e % 10) ∷ []) ++ newline)) ≤ 11
+    go : (b : Bool)
+        → length (refusedText ++ (cond b ((zeroDigit + numberOf e) ∷ []) ((zeroDigit + numberOf e / 10) ∷ (zeroDigit + numberOf e % 10) ∷ []) ++ newline)) ≤ refusalRoom
     go true = lit≤ tt
     go false = lit≤ tt
 
 module _ (out out′ : List ℕ) (e : Refusal) (n : ℕ) (number : n ≡ numberOf e) (text : out′ ≡ sets out 0 refusedText) where
-  pub short-put : n < 10 → outcome 10 (set (set out′ 8 (48 + n)) 9 10) ≡ put out (refusedLine e)
+  pub short-put : n < 10 → outputAfter 10 (set (set out′ 8 (zeroDigit + n)) 9 10) ≡ putText out (refusedLine e)
   unfolding refusedLine
   short-put h = rw (text, ← number, lt-ltb n 10 h)
 
-  pub long-put : 10 ≤ n → outcome 11 (set (set (set out′ 8 (48 + n / 10)) 9 (48 + n % 10)) 10 10) ≡ put out (refusedLine e)
+  pub long-put : 10 ≤ n → outputAfter 11 (set (set (set out′ 8 (zeroDigit + n / 10)) 9 (zeroDigit + n % 10)) 10 10) ≡ putText out (refusedLine e)
   unfolding refusedLine
   long-put h = rw (text, ← number, le-ltb n 10 h)

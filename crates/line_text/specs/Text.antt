@@ -1,5 +1,6 @@
--- Document 01, "The program": the lines that are printed, as octets.
-use Prim.Native.Nat.{ℕ, _+_, _/_, _%_}
+-- The lines that ccfbline prints, as octets of ASCII: a packet in lower-case hex, or `refused N` with the
+-- number of a refusal.
+use Prim.Native.Nat.{ℕ, _+_, _-_, _/_, _%_}
 use mathlib.Core.Bool.{cond}
 use mathlib.Core.List.{List, [], _∷_, _++_}
 use lib.ListN.{length}
@@ -7,10 +8,18 @@ use lib.Seq.{sets}
 use lib.Dec.{ltb}
 use Rattle.refusal.specs.Numbers.{numberOf}
 use Rattle.refusal.specs.declared.Refusal.{Refusal}
+use Rattle.octets.specs.Output.{OutputAfter, outputAfter}
+
+-- `0`; and the digits 10 to 15 are the letters starting at `a`, which is 97
+abbrev pub zeroDigit : ℕ
+zeroDigit = 48
+
+abbrev pub letters : ℕ
+letters = 97 - 10
 
 -- `0` to `9`, `a` to `f`
 abbrev pub digitOf : ℕ → ℕ
-digitOf n = cond (ltb n 10) (48 + n) (87 + n)
+digitOf n = cond (ltb n 10) (zeroDigit + n) (letters + n)
 
 -- two digits for each octet
 unfoldable pub hexOf : List ℕ → List ℕ
@@ -20,7 +29,7 @@ hexOf (x ∷ xs) = digitOf (x / 16) ∷ digitOf (x % 16) ∷ hexOf xs
 abbrev pub newline : List ℕ
 newline = 10 ∷ []
 
--- "each packet is one line of lower-case hex"
+-- a packet is one line of lower-case hex
 unfoldable pub hexLine : List ℕ → List ℕ
 hexLine packet = hexOf packet ++ newline
 
@@ -28,21 +37,21 @@ hexLine packet = hexOf packet ++ newline
 abbrev pub refusedText : List ℕ
 refusedText = 114 ∷ 101 ∷ 102 ∷ 117 ∷ 115 ∷ 101 ∷ 100 ∷ 32 ∷ []
 
+abbrev pub refusedOctets : ℕ
+refusedOctets = 8
+
 -- a number below 100
 abbrev pub decimalOf : ℕ → List ℕ
-decimalOf n = cond (ltb n 10) ((48 + n) ∷ []) ((48 + n / 10) ∷ (48 + n % 10) ∷ [])
+decimalOf n = cond (ltb n 10) ((zeroDigit + n) ∷ []) ((zeroDigit + n / 10) ∷ (zeroDigit + n % 10) ∷ [])
 
 -- `refused N`
 unfoldable pub refusedLine : Refusal → List ℕ
 refusedLine e = refusedText ++ (decimalOf (numberOf e) ++ newline)
 
+-- room for the line of any refusal: a number has one digit or two
+abbrev pub refusalRoom : ℕ
+refusalRoom = refusedOctets + 3
+
 -- how many octets were written to the front of the output, and what it then holds
-pub record Outcome : Type 0 where
-  pub octets : ℕ
-  pub out : List ℕ
-
-abbrev pub outcome : ℕ → List ℕ → Outcome
-outcome n out = record { octets = n; out = out }
-
-abbrev pub put : List ℕ → List ℕ → Outcome
-put out text = outcome (length text) (sets out 0 text)
+abbrev pub putText : List ℕ → List ℕ → OutputAfter ℕ
+putText out text = outputAfter (length text) (sets out 0 text)

@@ -1,28 +1,12 @@
--- Document 01, "Cases at the edges": the starred cases of the metric, one statement over a list of them. Assumes nothing.
+-- The cases at the edges hold: one statement over the list of them. Assumes nothing.
 use Prim.Native.Nat.{ℕ, _-_, _^_}
 use mathlib.Core.Path.{_≡_, refl}
-use mathlib.Core.List.{List, [], _∷_}
-use Rattle.refusal.specs.Lists.{All}
+use Rattle.lists.specs.All.{All}
 use Rattle.metric.specs.Metric.{ageOf, atoOfAge, atoOf, decodeOf}
-use Rattle.metric.specs.declared.Metric.{Metric}
-use Rattle.metric.specs.declared.Metric.the-variants.{NotReceived, Received, OverRange, NoTime}
+use Rattle.metric.specs.Starred.{CaseHolds, cases}
 use Rattle.metric.specs.declared.Time.the-variants.{Known}
 
-pub data Case : Type 0 where
-  age : ℕ → ℕ → Case
-  reads : ℕ → Metric → Case
-
--- whatever RTS and time have that age, the ATO is this; the metric reads as this
-abbrev pub Holds : Case → Type 0
-Holds (age a ato) = (rts t : ℕ) → ageOf rts t ≡ a → atoOf (Known t) rts ≡ ato
-Holds (reads m case) = decodeOf m ≡ case
-
-pub cases : List Case
-cases =
-    age 0 0 ∷ age 63 0 ∷ age 64 1 ∷ age 524096 0x1FFD ∷ age 524097 0x1FFE ∷ age (2 ^ 31 - 1) 0x1FFE ∷ age (2 ^ 31) 0x1FFF
-    ∷ reads 0x7FFF NotReceived ∷ reads 0xBFFD (Received 1 8189) ∷ reads 0xFFFE (OverRange 3) ∷ reads 0xFFFF (NoTime 3) ∷ []
-
-pub starred : All Holds cases
+pub starred : All CaseHolds cases
 unfolding cases atoOfAge decodeOf
 starred = (at 0, (at 63, (at 64, (at 524096, (at 524097, (at (2 ^ 31 - 1), (at (2 ^ 31), (refl, (refl, (refl, (refl, tt)))))))))))
   where

@@ -1,4 +1,4 @@
--- The rows of the table of "The metric", each a theorem. Assumes nothing.
+-- Each row of the table of arrival time offsets, as a theorem. Assumes nothing.
 use Prim.Native.Nat.{ℕ, _/_, _^_, _<_, _≤_}
 use mathlib.Core.Path.{_≡_, refl}
 use native.Mathlib.Omega.{arith}

@@ -1,1 +1,3 @@
 pub mod Metric
+pub mod ReadBack
+pub mod Starred

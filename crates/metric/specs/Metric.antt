@@ -1,44 +1,111 @@
--- Document 01, "The metric": sixteen bits, R, then 2 bits ECN mark, then 13 bits arrival time offset (ATO).
-use Prim.Native.Nat.{ℕ, _+_, _-_, _*_, _/_, _%_, _^_}
-use mathlib.Core.Bool.{cond}
+-- The metric of a sequence number: sixteen bits, R, then 2 bits ECN mark, then 13 bits arrival time offset
+-- (ATO).
+use Prim.Native.Nat.{ℕ, _+_, _-_, _*_, _/_, _%_, _^_, _<_}
+use mathlib.Core.Bool.{Bool, true, false, cond}
 use lib.Dec.{eqb, ltb, leb}
 use Rattle.metric.specs.declared.Time.{Time}
-use Rattle.metric.specs.declared.Time.the-variants.{Unknown, Known}
 use Rattle.metric.specs.declared.Cell.{Cell}
-use Rattle.metric.specs.declared.Cell.the-variants.{Empty, Filled}
 use Rattle.metric.specs.declared.Metric.{Metric}
+use Rattle.metric.specs.declared.Time.the-variants.{Unknown, Known}
+use Rattle.metric.specs.declared.Cell.the-variants.{Empty, Filled}
 use Rattle.metric.specs.declared.Metric.the-variants.{NotReceived, Received, OverRange, NoTime}
+
+-- ---- times
+
+-- a time is a count of 1/65536 s, modulo 2^32
+abbrev pub times : ℕ
+times = 2 ^ 32
+
+-- what the type of a time says of it
+abbrev pub TimeInRange : Time → Type 0
+TimeInRange Unknown = Unit {0}
+TimeInRange (Known t) = t < times
+
+-- a time that comes with a flag: known or not
+abbrev pub timeOf : Bool → ℕ → Time
+timeOf true t = Known t
+timeOf false t = Unknown
 
 -- age = (RTS - time) modulo 2^32
 abbrev pub ageOf : ℕ → ℕ → ℕ
-ageOf rts time = (rts + 2 ^ 32 - time) % 2 ^ 32
+ageOf rts time = (rts + times - time) % times
 
--- age 2^31 or more (counted as after RTS): 0x1FFF; above 524,096: 0x1FFE; else age / 64, rounded down
+-- ---- the arrival time offset
+
+-- the two codes without an offset
+abbrev pub noTime : ℕ
+noTime = 0x1FFF
+
+abbrev pub overRange : ℕ
+overRange = 0x1FFE
+
+-- an offset counts 1/1024 s: 64 units of time
+abbrev pub offsetUnit : ℕ
+offsetUnit = 64
+
+-- the largest offset
+abbrev pub largestOffset : ℕ
+largestOffset = 8189
+
+-- the longest age that has an offset, 8189/1024 s
+abbrev pub longestAge : ℕ
+longestAge = largestOffset * offsetUnit
+
+-- an age of half of all times or more counts as a time after RTS
+abbrev pub afterRts : ℕ
+afterRts = 2 ^ 31
+
+-- age 2^31 or more: 0x1FFF; above 524,096: 0x1FFE; else age / 64, rounded down
 unfoldable pub atoOfAge : ℕ → ℕ
-atoOfAge age = cond (leb (2 ^ 31) age) 0x1FFF (cond (ltb 524096 age) 0x1FFE (age / 64))
+atoOfAge age = cond (leb afterRts age) noTime (cond (ltb longestAge age) overRange (age / offsetUnit))
 
 -- time unknown: 0x1FFF
 abbrev pub atoOf : Time → ℕ → ℕ
-atoOf Unknown rts = 0x1FFF
+atoOf Unknown rts = noTime
 atoOf (Known t) rts = atoOfAge (ageOf rts t)
 
--- an empty cell gives 0x0000; a filled one R = 1, the two bits of its mark, and ATO
+-- ---- the sixteen bits
+
+-- ECN-CE, the largest of the four marks
+abbrev pub congested : ℕ
+congested = 3
+
+-- R
+abbrev pub receivedBit : ℕ
+receivedBit = 2 ^ 15
+
+-- the mark stands above the 13 bits of ATO
+abbrev pub markUnit : ℕ
+markUnit = 2 ^ 13
+
+-- R = 1, the two bits of the mark, ATO
+abbrev pub assembledOf : ℕ → ℕ → ℕ
+assembledOf mark ato = receivedBit + markUnit * (mark % 4) + ato
+
+-- an empty cell gives 0x0000; a filled one R = 1, its mark and ATO
 abbrev pub encodeOf : Cell → ℕ → ℕ
 encodeOf Empty rts = 0
-encodeOf (Filled mark time) rts = 32768 + 8192 * (mark % 4) + atoOf time rts
+encodeOf (Filled mark time) rts = assembledOf mark (atoOf time rts)
+
+-- the mark of a metric, and its ATO
+abbrev pub markBits : ℕ → ℕ
+markBits m = m / markUnit % 4
+
+abbrev pub atoBits : ℕ → ℕ
+atoBits m = m % markUnit
 
 -- the two codes are cases without a number
 abbrev pub receivedOf : ℕ → ℕ → Metric
-receivedOf mark ato = cond (eqb ato 0x1FFF) (NoTime mark) (cond (eqb ato 0x1FFE) (OverRange mark) (Received mark ato))
+receivedOf mark ato = cond (eqb ato noTime) (NoTime mark) (cond (eqb ato overRange) (OverRange mark) (Received mark ato))
 
 -- R = 0: not received, the other 15 bits are ignored
 unfoldable pub decodeOf : ℕ → Metric
-decodeOf m = cond (ltb m 32768) NotReceived (receivedOf (m / 8192 % 4) (m % 8192))
+decodeOf m = cond (ltb m receivedBit) NotReceived (receivedOf (markBits m) (atoBits m))
 
 -- what the metric of a cell says when it is read back: the case of its age, and of the cell
 unfoldable pub seenAtAge : ℕ → ℕ → Metric
 seenAtAge mark age =
-    cond (leb (2 ^ 31) age) (NoTime mark) (cond (ltb 524096 age) (OverRange mark) (Received mark (age / 64)))
+    cond (leb afterRts age) (NoTime mark) (cond (ltb longestAge age) (OverRange mark) (Received mark (age / offsetUnit)))
 
 abbrev pub seenOf : Cell → ℕ → Metric
 seenOf Empty rts = NotReceived

@@ -1,14 +1,14 @@
 -- What was put is got, and other octets stay. Assumes nothing.
-use Prim.Native.Nat.{ℕ, zero, suc, _+_, _-_, _*_, _/_, _%_, _^_, _≤_, _<_}
-use mathlib.Core.Path.{_≡_, refl, sym, ap, _∙_}
+use Prim.Native.Nat.{ℕ, zero, suc, _+_, _≤_, _<_}
+use mathlib.Core.Path.{_≡_, refl, _∙_}
 use mathlib.Core.Logic.{_⊎_, ⊎-elim}
-use mathlib.Core.List.{List, [], _∷_, _++_}
+use mathlib.Core.List.{List, [], _∷_}
 use native.Mathlib.Omega.{arith}
 use native.Mathlib.Nat.{add-zero, add-suc, add-assoc, suc-add}
 use lib.ListN.{length, getD, set, length-set}
-use lib.Seq.{sets, getD-set-same, getD-set-other, length-sets}
-use Rattle.octets.specs.Octets.{be16, be32, octets16, octets32}
+use lib.Seq.{sets, getD-set-same, getD-set-other}
 use lib.Dec.{lit≤}
+use Rattle.octets.specs.Octets.{be16, be32, octets16, octets32}
 
 -- an octet outside the written ones stays
 pub stays : (vs out : List ℕ) (at i : ℕ) → (i < at) ⊎ (at + length vs ≤ i) → getD (sets out at vs) i 0 ≡ getD out i 0

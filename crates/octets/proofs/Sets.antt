@@ -1,4 +1,4 @@
--- Laws of `sets`: one write behind another, two writes that do not meet, and a write into a part that was lent. Assumes nothing.
+-- Laws of `sets`: writes back to back, writes that do not meet, and a write into a part that was lent. Assumes nothing.
 use mathlib.Core.Path.{_≡_, refl, sym, ap, _∙_}
 use mathlib.Core.List.{List, [], _∷_, _++_, append-nil}
 use Prim.Native.Nat.{ℕ, suc, _+_, _-_, _≤_, _<_}
@@ -17,8 +17,9 @@ module _ {A : Type 0} where
   pub sets-next : (vs ws l : List A) (i j : ℕ) → i + length vs ≡ j → sets (sets l i vs) j ws ≡ sets l i (vs ++ ws)
   sets-next vs ws l i j e = rw (← e, sets-append vs ws l i)
 
-  -- the content after two writes, one behind the other
-  pub sets-twice : (vs ws l mid last : List A) (i j : ℕ) → mid ≡ sets l i vs → last ≡ sets mid j ws → i + length vs ≡ j → last ≡ sets l i (vs ++ ws)
+  -- the content after two writes back to back
+  pub sets-twice : (vs ws l mid last : List A) (i j : ℕ) → mid ≡ sets l i vs → last ≡ sets mid j ws → i + length vs ≡ j
+      → last ≡ sets l i (vs ++ ws)
   sets-twice vs ws l mid last i j p q e = q ∙ ap (λ (z : List A). sets z j ws) p ∙ sets-next vs ws l i j e
 
   set-first : (vs l : List A) (a : A) (i j : ℕ) → i < j → sets (set l i a) j vs ≡ set (sets l j vs) i a
@@ -40,8 +41,9 @@ module _ {A : Type 0} where
   drop-sets [] l a j = refl
   drop-sets (v ∷ vs) l a j = rw (← add-suc a j, drop-sets vs (set l (a + j) v) a (suc j), drop-set-add a l j v)
 
-  -- a write into the part from a on is a write into the whole
-  pub sets-part : (vs l : List A) (a j : ℕ) → a ≤ length l → putMid a (length l - a) l (sets (midOf a (length l - a) l) j vs) ≡ sets l (a + j) vs
+  -- a write into the part that starts at a is a write into the whole
+  pub sets-part : (vs l : List A) (a j : ℕ) → a ≤ length l
+      → putMid a (length l - a) l (sets (midOf a (length l - a) l) j vs) ≡ sets l (a + j) vs
   sets-part vs l a j h =
       let m : midOf a (length l - a) l ≡ drop a l = take-all (length l - a) (drop a l) (omega (arith, length-drop a l)) in
       let p : postOf a (length l - a) l ≡ [] = drop-of-length-le (drop a l) {i = length l - a} (omega (arith, length-drop a l)) in

@@ -1,15 +1,14 @@
 -- How many octets metrics, blocks and packets take. Assumes nothing.
-use Prim.Native.Nat.{ℕ, zero, suc, _+_, _*_, _/_, _%_}
-use mathlib.Core.Path.{_≡_, refl, ap}
-use mathlib.Core.List.{List, [], _∷_, map}
+use Prim.Native.Nat.{ℕ, _+_, _*_, _/_, _%_}
+use mathlib.Core.Path.{_≡_, refl}
+use mathlib.Core.List.{List, [], _∷_}
 use native.Mathlib.Omega.{arith}
 use borrow.Author.Tests.{eq-eqb, ne-eqb}
-use lib.ListN.{length, length-append, length-map}
+use lib.ListN.{length, length-append}
+use Rattle.lists.proofs.Cases.{split-eq}
 use Rattle.octets.specs.Octets.{octets32}
-use Rattle.packet.specs.Packet.{Block, Packet, blockOctets, blocksOctets, packetOctets, encodeMetrics, filler, encodeBlock, encodeBlocks, encodePacket}
-use Rattle.packet.specs.Reading.{metricsAt}
-use Rattle.packet.specs.Tidy.{tidyMetric, tidyBlock, tidyPacket}
-use Rattle.packet.proofs.Cases.{split-eq}
+use Rattle.packet.specs.Packet.{Block, Packet, encodeMetrics, filler, encodeBlock, encodeBlocks, encodePacket, reportCounts}
+use Rattle.packet.specs.Sizes.{blockOctets, blocksOctets, packetOctets}
 
 twice : (q : ℕ) → blockOctets (2 * q) ≡ 8 + 4 * q
 twice q = omega arith
@@ -31,7 +30,9 @@ length-metrics (m ∷ ms) = omega (arith, length-metrics ms)
 pub length-filler : (n : ℕ) → 8 + 2 * n + length (filler n) ≡ blockOctets n
 unfolding filler
 length-filler n =
-    split-eq (n % 2) 0 (λ h. simp (eq-eqb (n % 2) 0 h) (omega (arith, even-octets n h))) (λ h. simp (ne-eqb (n % 2) 0 h) (omega (arith, odd-octets n h)))
+    split-eq (n % 2) 0
+    (λ h. simp (eq-eqb (n % 2) 0 h) (omega (arith, even-octets n h)))
+    (λ h. simp (ne-eqb (n % 2) 0 h) (omega (arith, odd-octets n h)))
 
 pub length-block : (b : Block) → length (encodeBlock b) ≡ blockOctets (length (b .metrics))
 unfolding encodeBlock
@@ -39,24 +40,11 @@ length-block b =
     let n = length (b .metrics) in
     omega (arith, length-append (encodeMetrics (b .metrics)) (filler n), length-metrics (b .metrics), length-filler n)
 
-pub length-blocks : (bs : List Block) → length (encodeBlocks bs) ≡ blocksOctets bs
+pub length-blocks : (bs : List Block) → length (encodeBlocks bs) ≡ blocksOctets (reportCounts bs)
 unfolding encodeBlocks
 length-blocks [] = refl
 length-blocks (b ∷ bs) = omega (arith, length-append (encodeBlock b) (encodeBlocks bs), length-block b, length-blocks bs)
 
-pub length-packet : (p : Packet) → length (encodePacket p) ≡ packetOctets p
+pub length-packet : (p : Packet) → length (encodePacket p) ≡ packetOctets (reportCounts (p .blocks))
 unfolding encodePacket
 length-packet p = omega (arith, length-append (encodeBlocks (p .blocks)) (octets32 (p .rts)), length-blocks (p .blocks))
-
-pub length-metricsAt : (s : List ℕ) (n i : ℕ) → length (metricsAt s i n) ≡ n
-unfolding metricsAt
-length-metricsAt s zero i = refl
-length-metricsAt s (suc n) i = ap suc (length-metricsAt s n (i + 2))
-
--- tidying changes no size
-pub tidy-blocks-octets : (bs : List Block) → blocksOctets (map tidyBlock bs) ≡ blocksOctets bs
-tidy-blocks-octets [] = refl
-tidy-blocks-octets (b ∷ bs) = rw (length-map (b .metrics) tidyMetric, tidy-blocks-octets bs)
-
-pub tidy-octets : (p : Packet) → packetOctets (tidyPacket p) ≡ packetOctets p
-tidy-octets p = rw (tidy-blocks-octets (p .blocks))

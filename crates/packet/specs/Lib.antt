@@ -1,4 +1,2 @@
+pub mod Sizes
 pub mod Packet
-pub mod Walk
-pub mod Reading
-pub mod Tidy

@@ -1,13 +1,14 @@
--- Document 01, "The packet": a packet as data, and its octets. Reader, rewriter and writer share these definitions.
+-- A packet as data, and its octets. Reader, rewriter and writer share these definitions.
 use Prim.Native.Nat.{ℕ, _+_, _-_, _*_, _/_, _%_, _^_, _<_, _≤_}
 use mathlib.Core.Bool.{cond}
-use mathlib.Core.List.{List, [], _∷_, _++_}
+use mathlib.Core.List.{List, [], _∷_, _++_, map}
 use lib.ListN.{length}
 use lib.Dec.{eqb}
-use Rattle.refusal.specs.Lists.{All}
+use Rattle.lists.specs.All.{All}
 use Rattle.octets.specs.Octets.{octets16, octets32}
+use Rattle.packet.specs.Sizes.{wordOctets, mostOctets, packetOctets, mostReports}
 
--- a report block: the 16-bit metrics of the numbers from begin on
+-- a report block: the 16-bit metrics of the numbers starting at begin
 pub record Block : Type 0 where
   pub ssrc : ℕ
   pub begin : ℕ
@@ -18,19 +19,9 @@ pub record Packet : Type 0 where
   pub rts : ℕ
   pub blocks : List Block
 
--- ---- sizes
-
--- a block of n numbers: 8 + 2n octets, rounded up to a multiple of 4
-abbrev pub blockOctets : ℕ → ℕ
-blockOctets n = (8 + 2 * n + 3) / 4 * 4
-
-abbrev pub blocksOctets : List Block → ℕ
-blocksOctets [] = 0
-blocksOctets (b ∷ bs) = blockOctets (length (b .metrics)) + blocksOctets bs
-
--- 12 octets and the blocks
-abbrev pub packetOctets : Packet → ℕ
-packetOctets p = 12 + blocksOctets (p .blocks)
+-- how many reports each block has
+abbrev pub reportCounts : List Block → List ℕ
+reportCounts bs = map (λ (b : Block). length (b .metrics)) bs
 
 -- ---- octets
 
@@ -54,23 +45,49 @@ unfoldable pub encodeBlocks : List Block → List ℕ
 encodeBlocks [] = []
 encodeBlocks (b ∷ bs) = encodeBlock b ++ encodeBlocks bs
 
--- version 2, padding flag 0, FMT 11; type 205; length in 32-bit words minus one; SSRC of the packet's sender
+-- the fields of the first two octets: version (2 bits), padding flag, FMT (5 bits); type
+abbrev pub version : ℕ
+version = 2
+
+abbrev pub format : ℕ
+format = 11
+
+abbrev pub packetType : ℕ
+packetType = 205
+
+-- the lowest bit of the version, and the padding flag, in the first octet
+abbrev pub versionUnit : ℕ
+versionUnit = 64
+
+abbrev pub paddingUnit : ℕ
+paddingUnit = 32
+
+-- where the SSRC of the sender stands
+abbrev pub senderAt : ℕ
+senderAt = 4
+
+-- the first octet of a packet without padding
+abbrev pub firstOctet : ℕ
+firstOctet = versionUnit * version + format
+
+-- the first octet; type; length in 32-bit words minus one; SSRC of the packet's sender
 abbrev pub packetHeader : ℕ → ℕ → List ℕ
-packetHeader octets sender = 0x8B ∷ 0xCD ∷ (octets16 (octets / 4 - 1) ++ octets32 sender)
+packetHeader octets sender = firstOctet ∷ packetType ∷ (octets16 (octets / wordOctets - 1) ++ octets32 sender)
 
 unfoldable pub encodePacket : Packet → List ℕ
-encodePacket p = packetHeader (packetOctets p) (p .sender) ++ (encodeBlocks (p .blocks) ++ octets32 (p .rts))
+encodePacket p =
+    packetHeader (packetOctets (reportCounts (p .blocks))) (p .sender) ++ (encodeBlocks (p .blocks) ++ octets32 (p .rts))
 
--- ---- packets whose fields fit: each in its bits, at most 16,384 reports, a length field of 16 bits
+-- ---- packets whose fields fit: each in its bits, at most 16,384 reports a block, a length field of 16 bits
 
 pub record FitBlock (b : Block) : Type 0 where
   pub ssrc : b .ssrc < 2 ^ 32
   pub begin : b .begin < 2 ^ 16
-  pub few : length (b .metrics) ≤ 16384
+  pub few : length (b .metrics) ≤ mostReports
   pub metrics : All (λ m. m < 2 ^ 16) (b .metrics)
 
 pub record Fit (p : Packet) : Type 0 where
   pub sender : p .sender < 2 ^ 32
   pub rts : p .rts < 2 ^ 32
   pub blocks : All FitBlock (p .blocks)
-  pub words : packetOctets p ≤ 4 * 2 ^ 16
+  pub words : packetOctets (reportCounts (p .blocks)) ≤ mostOctets

@@ -7,18 +7,20 @@ use native.Mathlib.Nat.{suc-add}
 use borrow.Author.Tests.{lt-leb, le-leb}
 use lib.ListN.{length, getD, drop}
 use lib.Seq.{take-at}
-use Rattle.refusal.specs.Lists.{All}
-use Rattle.refusal.proofs.Cases.{never, split-le}
-use Rattle.octets.specs.Octets.{be16, octets16}
-use Rattle.packet.specs.Packet.{Packet, packetOctets, encodeMetrics}
-use Rattle.packet.specs.Walk.{Walked, walked, stopped, walkOf}
-use Rattle.packet.specs.Reading.{packet, metricsAt, blockIn, packetIn, decoded, decode, nth, located, metricsPart, reportedIn, reportedOf, caseAt, Within}
-use Rattle.packet.specs.declared.ReportBlock.{ReportBlock}
-use Rattle.packet.proofs.Sizes.{length-metrics, length-metricsAt}
-use Rattle.packet.proofs.Walks.{walk-ind}
-use Rattle.packet.proofs.Answers.{walked-sound, within}
-use Rattle.packet.proofs.Tidying.{octets-read}
-use Rattle.packet_laws.specs.Asked.{Octets, laid, metricsOf, metricIn, metricOf, caseOf}
+use Rattle.lists.specs.All.{All}
+use Rattle.lists.proofs.Cases.{never, split-le}
+use Rattle.octets.specs.Octets.{be16, octets16, Octets}
+use Rattle.packet.specs.Packet.{Packet, encodeMetrics, reportCounts}
+use Rattle.packet.specs.Sizes.{packetOctets}
+use Rattle.packet.proofs.Sizes.{length-metrics}
+use Rattle.walk.specs.Walk.{Walked, walked, stopped, walkOf}
+use Rattle.walk.specs.declared.ReportBlock.{ReportBlock}
+use Rattle.walk.proofs.Walks.{walk-ind}
+use Rattle.reader.specs.Reading.{packet, metricsAt, blockIn, packetIn, decoded, decode, nth, readBlock, metricsPart}
+use Rattle.reader.specs.Reading.{reportedIn, reportedOf, readMetric, caseAt, Within}
+use Rattle.reader.proofs.Answers.{length-metricsAt, walked-sound, within}
+use Rattle.rewriter.proofs.Output.{octets-read}
+use Rattle.packet_laws.specs.Asked.{laid, metricsOf, blockMetric, packetMetric, caseOf}
 use Rattle.packet_laws.proofs.Back.{back-metrics}
 use Rattle.packet_laws.proofs.ReadBack.{walk-back}
 use Rattle.packet_laws.proofs.WrittenBack.{written-back}
@@ -34,7 +36,7 @@ module _ (s : List ℕ) where
       by-walk (walked bs) f g = then bs f (cc)
       by-walk (stopped x) f g = never (cc)
 
-  pub accepted-octets : (p : Packet) → decode s ≡ packet p → packetOctets p ≡ length s
+  pub accepted-octets : (p : Packet) → decode s ≡ packet p → packetOctets (reportCounts (p .blocks)) ≡ length s
   accepted-octets p e = accepted p e (λ bs f z. rw z (octets-read s bs f))
 
   -- ---- metrics
@@ -45,49 +47,52 @@ module _ (s : List ℕ) where
   metric-at (suc n) at zero l = ap (be16 s) (omega arith)
   metric-at (suc n) at (suc j) l = metric-at n (at + 2) j (omega arith) ∙ ap (be16 s) (omega arith)
 
-  metric-in : (b : ReportBlock) (j : ℕ) → reportedIn b s j ≡ metricIn (blockIn s b) j
+  metric-in : (b : ReportBlock) (j : ℕ) → reportedIn b s j ≡ blockMetric (blockIn s b) j
   metric-in b j =
       let n = b .«num_reports» in
-      rw (length-metricsAt s n (b .metrics))
+      rw (length-metricsAt s n (b .«metrics_at»))
       (split-le n j
       (λ h. simp (le-leb n j h))
-      (λ h. simp (lt-leb n j h) (rw (metric-at n (b .metrics) j h))))
+      (λ h. simp (lt-leb n j h) (rw (metric-at n (b .«metrics_at») j h))))
 
-  metric-nth : (bs : List ReportBlock) (k j : ℕ) → reportedOf (nth bs k) s j ≡ metricOf (map (blockIn s) bs) k j
+  metric-nth : (bs : List ReportBlock) (k j : ℕ) → reportedOf (nth bs k) s j ≡ packetMetric (map (blockIn s) bs) k j
   metric-nth [] k j = refl
   metric-nth (b ∷ bs) zero j = metric-in b j
   metric-nth (b ∷ bs) (suc k) j = metric-nth bs k j
 
   -- metric j of block k is that of the packet
-  pub metric-asked : (p : Packet) → decode s ≡ packet p → (k j : ℕ) → reportedOf (located (walkOf s) k) s j ≡ metricOf (p .blocks) k j
+  pub metric-asked : (p : Packet) → decode s ≡ packet p → (k j : ℕ) → readMetric s k j ≡ packetMetric (p .blocks) k j
   metric-asked p e k j = accepted p e (λ bs f z. rw (f, z) (metric-nth bs k j))
 
   module _ (octets : Octets s) where
     -- block k has the SSRC, begin and count of the packet's, and its metrics stand behind the blocks before it
-    pub block-asked : (p : Packet) → decode s ≡ packet p → (k : ℕ) → located (walkOf s) k ≡ nth (laid 8 (p .blocks)) k
+    pub block-asked : (p : Packet) → decode s ≡ packet p → (k : ℕ) → readBlock s k ≡ nth (laid 8 (p .blocks)) k
     block-asked p e k =
         let w = written-back s octets p e in
         let z : walkOf s ≡ walked (laid 8 (p .blocks)) = ap walkOf (w .octets) ∙ walk-back p (w .fit) in
         rw z
 
-    part-nth : (bs : List ReportBlock) → All (Within s) bs → (k : ℕ) → metricsPart (nth bs k) s ≡ encodeMetrics (metricsOf (map (blockIn s) bs) k)
+    part-nth : (bs : List ReportBlock) → All (Within s) bs → (k : ℕ)
+        → metricsPart (nth bs k) s ≡ encodeMetrics (metricsOf (map (blockIn s) bs) k)
     unfolding encodeMetrics
     part-nth [] a k = refl
     part-nth (b ∷ bs) a zero =
         let n = b .«num_reports» in
-        let m = metricsAt s (b .metrics) n in
-        simp (le-leb (b .metrics + 2 * n) (length s) (a .0 .room))
-        (rw (back-metrics s octets n (b .metrics) (a .0 .room))
-        (take-at (encodeMetrics m) (drop (b .metrics + 2 * n) s) (2 * n)
-        (length-metrics m ∙ ap (λ (x : ℕ). 2 * x) (length-metricsAt s n (b .metrics)))))
+        let m = metricsAt s (b .«metrics_at») n in
+        simp (le-leb (b .«metrics_at» + 2 * n) (length s) (a .0 .room))
+        (rw (back-metrics s octets n (b .«metrics_at») (a .0 .room))
+        (take-at (encodeMetrics m) (drop (b .«metrics_at» + 2 * n) s) (2 * n)
+        (length-metrics m ∙ ap (λ (x : ℕ). 2 * x) (length-metricsAt s n (b .«metrics_at»)))))
     part-nth (b ∷ bs) a (suc k) = part-nth bs (a .1) k
 
-    -- the part that is handed back holds the metrics of the block, 2 octets a number, the filler left out
-    pub part-asked : (p : Packet) → decode s ≡ packet p → (k : ℕ) → metricsPart (located (walkOf s) k) s ≡ encodeMetrics (metricsOf (p .blocks) k)
+    -- the part that is handed back holds the metrics of the block, 2 octets each, without the filler
+    pub part-asked : (p : Packet) → decode s ≡ packet p → (k : ℕ) → metricsPart (readBlock s k) s ≡ encodeMetrics (metricsOf (p .blocks) k)
     part-asked p e k =
         accepted p e (λ bs f z.
         rw (f, z)
-        (part-nth bs (walk-ind s (λ at bs. All (Within s) bs) (λ at h. tt) (λ at b next bs f r. (within s at b next f, r)) 8 bs (walked-sound s bs f .1)) k))
+        (part-nth bs
+        (walk-ind s (λ at bs. All (Within s) bs) (λ at h. tt) (λ at b next bs f r. (within s at b next f, r)) 8 bs (walked-sound s bs f .1))
+        k))
 
 -- ---- a part by itself
 

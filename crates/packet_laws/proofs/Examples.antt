@@ -1,21 +1,24 @@
--- Document 01, "Cases at the edges" and "The program": packets read and written by the definitions. Assumes nothing.
+-- Packets read and written by the definitions: one packet in full, and packets at the edge of each refusal. Assumes
+-- nothing.
 use Prim.Native.Nat.{ℕ}
 use mathlib.Core.Path.{_≡_, refl}
 use mathlib.Core.List.{List, [], _∷_, map}
 use Rattle.refusal.specs.Numbers.{numberOf}
-use Rattle.refusal.specs.declared.Refusal.the-variants.{OutputTooShort, PacketTooShort, BadVersion, BadType, BadLength, Padded, RunsIntoRts, TooManyReports, FillerNotZero, NoBlock, NoNumber}
 use Rattle.octets.specs.Octets.{be16, be32}
+use Rattle.octets.specs.Output.{outputAfter}
 use Rattle.metric.specs.Metric.{decodeOf}
-use Rattle.metric.specs.declared.Metric.the-variants.{NotReceived, Received}
 use Rattle.packet.specs.Packet.{Packet, encodeMetrics, filler, encodeBlock, encodeBlocks, encodePacket}
-use Rattle.packet.specs.Walk.{startOf, fillerAt, stepAt, walk, walkOf}
-use Rattle.packet.specs.Reading.{packet, refused, metricsAt, decode, located, reportedOf}
-use Rattle.packet.specs.Tidy.{outcome, tidied}
-use Rattle.packet.specs.declared.BlockAnswer.the-variants as answer
-use Rattle.packet.specs.declared.MetricAnswer.the-variants.{Reported, Refused}
-use Rattle.packet.specs.declared.Tidied.the-variants as tidying
+use Rattle.walk.specs.Walk.{startOf, fillerAt, stepAt, walk, walkOf}
+use Rattle.reader.specs.Reading.{packet, refused, metricsAt, decode, readBlock, readMetric}
+use Rattle.rewriter.specs.Rewrite.{rewriteOf}
+use Rattle.refusal.specs.declared.Refusal.the-variants.{OutputTooShort, PacketTooShort, BadVersion, BadType, BadLength, Padded, RunsIntoRts}
+use Rattle.refusal.specs.declared.Refusal.the-variants.{TooManyReports, FillerNotZero, NoBlock, NoNumber}
+use Rattle.metric.specs.declared.Metric.the-variants.{NotReceived, Received}
+use Rattle.reader.specs.declared.BlockAnswer.the-variants as answer
+use Rattle.reader.specs.declared.MetricAnswer.the-variants.{Reported, Refused}
+use Rattle.rewriter.specs.declared.Rewriting.the-variants as rewriting
 
--- Case P's packet
+-- a packet of one block, whose numbers go past 65535
 pub case-P : Packet
 case-P = record { sender = 0xf1; rts = 0x50000; blocks = record { ssrc = 0xa01; begin = 0xfffd; metrics = 0 ∷ 0xc200 ∷ 0 ∷ 0xe000 ∷ [] } ∷ [] }
 
@@ -32,16 +35,16 @@ unfolding case-P octets-P decode walkOf startOf walk stepAt fillerAt be16 be32 m
 read-P = refl
 
 -- its metrics, numbers 65533 to 0, then no such number, and no such block
-pub metrics-P : map (reportedOf (located (walkOf octets-P) 0) octets-P) (0 ∷ 1 ∷ 2 ∷ 3 ∷ 4 ∷ [])
+pub metrics-P : map (readMetric octets-P 0) (0 ∷ 1 ∷ 2 ∷ 3 ∷ 4 ∷ [])
     ≡ Reported 65533 NotReceived ∷ Reported 65534 (Received 2 512) ∷ Reported 65535 NotReceived ∷ Reported 0 (Received 3 0) ∷ Refused NoNumber ∷ []
 unfolding octets-P walkOf startOf walk stepAt fillerAt be16 be32 metricsAt decodeOf
 metrics-P = refl
 
-pub no-block-P : located (walkOf octets-P) 1 ≡ answer.Refused NoBlock
+pub no-block-P : readBlock octets-P 1 ≡ answer.Refused NoBlock
 unfolding octets-P walkOf startOf walk stepAt fillerAt be16 be32
 no-block-P = refl
 
-pub no-room-P : tidied (decode octets-P) [] ≡ outcome (tidying.Refused OutputTooShort) []
+pub no-room-P : rewriteOf (decode octets-P) [] ≡ outputAfter (rewriting.Refused OutputTooShort) []
 unfolding octets-P decode walkOf startOf walk stepAt fillerAt be16 be32 metricsAt
 no-room-P = refl
 
@@ -52,7 +55,7 @@ small first type words rest = first ∷ type ∷ 0 ∷ words ∷ 0 ∷ 0 ∷ 0 �
 pub rts : List ℕ
 rts = 0 ∷ 0 ∷ 0 ∷ 9 ∷ []
 
--- twelve octets with length 2 are accepted, with no block; then refusals 21 to 28, the later fault giving way to the earlier
+-- twelve octets with length 2 are accepted, with no block; then refusals 21 to 28: of two faults the earlier counts
 pub edges : map decode (
     small 0x8b 0xcd 2 rts
     ∷ small 0x4b 0xcd 2 (0 ∷ 0 ∷ 0 ∷ [])
@@ -73,6 +76,7 @@ unfolding small rts decode walkOf startOf walk stepAt fillerAt be16 be32 metrics
 edges = refl
 
 -- with these numbers
-pub numbers : map numberOf (PacketTooShort ∷ BadVersion ∷ BadType ∷ BadLength ∷ Padded ∷ RunsIntoRts ∷ TooManyReports ∷ FillerNotZero ∷ NoBlock ∷ NoNumber ∷ OutputTooShort ∷ [])
+pub numbers : map numberOf
+    (PacketTooShort ∷ BadVersion ∷ BadType ∷ BadLength ∷ Padded ∷ RunsIntoRts ∷ TooManyReports ∷ FillerNotZero ∷ NoBlock ∷ NoNumber ∷ OutputTooShort ∷ [])
     ≡ 21 ∷ 22 ∷ 23 ∷ 24 ∷ 25 ∷ 26 ∷ 27 ∷ 28 ∷ 29 ∷ 30 ∷ 10 ∷ []
 numbers = refl

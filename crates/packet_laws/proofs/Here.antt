@@ -1,4 +1,4 @@
--- Reading what was written: where the octets from i on are those of a number, metrics or a block. Assumes nothing.
+-- Reading what was written: where the octets at i are those of a number, of metrics or of a block. Assumes nothing.
 use Prim.Native.Nat.{ℕ, suc, _+_, _-_, _*_, _/_, _%_, _<_, _≤_}
 use mathlib.Core.Path.{_≡_, refl, sym, ap, _∙_}
 use mathlib.Core.List.{List, [], _∷_, _++_, append-assoc, map}
@@ -8,17 +8,18 @@ use native.Mathlib.Nat.{add-zero}
 use borrow.Author.Tests.{eq-eqb, ne-eqb}
 use lib.ListN.{length, getD, drop, length-drop, length-append}
 use lib.Seq.{drop-cons}
-use Rattle.refusal.specs.Lists.{All}
+use Rattle.lists.specs.All.{All}
+use Rattle.lists.proofs.Cases.{split-eq}
 use Rattle.octets.specs.Octets.{be16, be32, octets16, octets32}
-use Rattle.packet.specs.Packet.{Block, blockOctets, blocksOctets, encodeMetrics, filler, encodeBlock, encodeBlocks, FitBlock}
-use Rattle.packet.specs.Walk.{rtsAt, fillerAt, stepAt, walked, walkFrom}
-use Rattle.packet.specs.Reading.{metricsAt, blockIn}
-use Rattle.packet.specs.declared.Step.the-variants as step
-use Rattle.packet_laws.specs.Asked.{laidBlock, laid}
-use Rattle.packet.proofs.Cases.{split-eq}
+use Rattle.packet.specs.Packet.{Block, encodeMetrics, filler, encodeBlock, encodeBlocks, FitBlock, reportCounts}
+use Rattle.packet.specs.Sizes.{blockOctets, blocksOctets}
 use Rattle.packet.proofs.Sizes.{even-octets, odd-octets}
-use Rattle.packet.proofs.Steps.{step-end, step-found}
-use Rattle.packet.proofs.Walks.{walk-block, walk-end}
+use Rattle.walk.specs.Walk.{rtsAt, fillerAt, stepAt, walked, walkFrom}
+use Rattle.walk.proofs.Steps.{step-end, step-found}
+use Rattle.walk.proofs.Walks.{walk-block, walk-end}
+use Rattle.reader.specs.Reading.{metricsAt, blockIn}
+use Rattle.packet_laws.specs.Asked.{laidBlock, laid}
+use Rattle.walk.specs.declared.Step.the-variants as step
 
 -- a block and what follows it, part by part
 pub parts-of-block : (b : Block) (n : ℕ) (t : List ℕ) → length (b .metrics) ≡ n
@@ -30,7 +31,7 @@ parts-of-block b n t e =
     (sym (append-assoc (encodeMetrics (b .metrics)) (filler (length (b .metrics))) t)))
 
 module _ (s : List ℕ) where
-  -- from i on stands t
+  -- t stands at i, to the end
   abbrev Here : ℕ → List ℕ → Type 0
   Here i t = drop i s ≡ t
 
@@ -80,7 +81,7 @@ module _ (s : List ℕ) where
       let f = here-16 (i + 8 + 2 * n) 0 t e′ in
       (simp (ne-eqb (n % 2) 0 h) (f .0), rw z (f .1)))
 
-  -- a block of b from at on
+  -- the block b stands at an offset, and t behind it
   pub record BlockHere (at : ℕ) (b : Block) (t : List ℕ) : Type 0 where
     pub found : step.Block (laidBlock at b) (record { at = at + blockOctets (length (b .metrics)) }) ≡ stepAt s at
     pub is : blockIn s (laidBlock at b) ≡ b
@@ -105,11 +106,11 @@ module _ (s : List ℕ) where
         rest = e₅ .1;
       }
 
-  -- blocks from at on, and RTS behind them
+  -- blocks stand at an offset, and RTS behind them
   pub record BlocksHere (at : ℕ) (bs : List Block) (t : List ℕ) : Type 0 where
     pub walks : walkFrom s at ≡ walked (laid at bs)
     pub are : map (blockIn s) (laid at bs) ≡ bs
-    pub rest : Here (at + blocksOctets bs) t
+    pub rest : Here (at + blocksOctets (reportCounts bs)) t
 
   pub here-blocks : (at : ℕ) (bs : List Block) (t : List ℕ) → length t ≡ 4 → All FitBlock bs → Here at (encodeBlocks bs ++ t) → BlocksHere at bs t
   unfolding encodeBlocks laid
@@ -120,5 +121,5 @@ module _ (s : List ℕ) where
       let e₀ : Here at (encodeBlock b ++ (encodeBlocks bs ++ t)) = rw append-assoc at e in
       let h = here-block at b (encodeBlocks bs ++ t) (omega (arith, length-append (encodeBlocks bs) t)) (fit .0) e₀ in
       let r = here-blocks (at + blockOctets n) bs t l (fit .1) (h .rest) in
-      let z : at + (blockOctets n + blocksOctets bs) ≡ at + blockOctets n + blocksOctets bs = omega arith in
+      let z : at + (blockOctets n + blocksOctets (reportCounts bs)) ≡ at + blockOctets n + blocksOctets (reportCounts bs) = omega arith in
       record { walks = walk-block s at _ (h .found) _ _ refl ∙ rw (r .walks); are = rw (h .is, r .are); rest = rw z (r .rest) }

@@ -4,11 +4,12 @@ use mathlib.Core.List.{List, [], _∷_, _++_}
 use native.Mathlib.Omega.{arith}
 use borrow.Author.Tests.{eq-eqb, ne-eqb}
 use lib.ListN.{length}
-use Rattle.refusal.specs.Lists.{All}
-use Rattle.octets.specs.Octets.{octets16, octets32}
-use Rattle.packet.specs.Packet.{Block, Packet, packetOctets, encodeMetrics, filler, blockHeader, encodeBlock, encodeBlocks, packetHeader, encodePacket, FitBlock, Fit}
-use Rattle.packet.proofs.Cases.{split-eq}
-use Rattle.packet_laws.specs.Asked.{Octets}
+use Rattle.lists.specs.All.{All}
+use Rattle.lists.proofs.Cases.{split-eq}
+use Rattle.octets.specs.Octets.{octets16, octets32, Octets}
+use Rattle.packet.specs.Packet.{Block, Packet, reportCounts, FitBlock, Fit}
+use Rattle.packet.specs.Packet.{encodeMetrics, filler, blockHeader, encodeBlock, encodeBlocks, packetHeader, encodePacket}
+use Rattle.packet.specs.Sizes.{packetOctets}
 
 join : (l m : List ℕ) → Octets l → Octets m → Octets (l ++ m)
 join [] m a b = b
@@ -46,7 +47,7 @@ octets-blocks (b ∷ bs) h = join (encodeBlock b) (encodeBlocks bs) (octets-bloc
 pub in-octets : (p : Packet) → Fit p → Octets (encodePacket p)
 unfolding encodePacket
 in-octets p h =
-    let w = packetOctets p / 4 - 1 in
-    join (packetHeader (packetOctets p) (p .sender)) (encodeBlocks (p .blocks) ++ octets32 (p .rts))
+    let w = packetOctets (reportCounts (p .blocks)) / 4 - 1 in
+    join (packetHeader (packetOctets (reportCounts (p .blocks))) (p .sender)) (encodeBlocks (p .blocks) ++ octets32 (p .rts))
     (omega arith, (omega arith, join (octets16 w) (octets32 (p .sender)) (octets-16 w (omega (arith, h .words))) (octets-32 (p .sender) (h .sender))))
     (join (encodeBlocks (p .blocks)) (octets32 (p .rts)) (octets-blocks (p .blocks) (h .blocks)) (octets-32 (p .rts) (h .rts)))

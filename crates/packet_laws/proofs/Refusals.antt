@@ -1,40 +1,47 @@
 -- Each refusal is given exactly if its condition holds and none before it. Assumes nothing.
-use Prim.Native.Nat.{ℕ, zero, suc, _+_, _-_, _*_, _/_, _%_, _<_, _≤_}
+use Prim.Native.Nat.{ℕ, zero, suc, _+_, _-_, _*_, _%_, _<_, _≤_}
 use mathlib.Core.Path.{_≡_, refl, sym, ap, subst, _∙_}
 use mathlib.Core.List.{List, [], _∷_}
 use native.Mathlib.Omega.{arith}
 use borrow.Author.Tests.{lt-leb, le-leb, lt-ltb, le-ltb, eq-eqb, ne-eqb}
-use lib.ListN.{length, getD, length-map}
+use lib.ListN.{length, length-map}
+use Rattle.lists.proofs.Cases.{never, split-le, split-eq}
 use Rattle.refusal.specs.declared.Refusal.{Refusal}
-use Rattle.refusal.specs.declared.Refusal.the-variants.{OutputTooShort, PacketTooShort, BadVersion, BadType, BadLength, Padded, RunsIntoRts, TooManyReports, FillerNotZero, NoBlock, NoNumber}
-use Rattle.refusal.proofs.Cases.{never, split-le}
 use Rattle.octets.specs.Octets.{be16}
-use Rattle.packet.specs.Packet.{Packet, blockOctets}
-use Rattle.packet.specs.Packet as form
-use Rattle.packet.specs.Walk.{rtsAt, startOf, fillerAt, reportBlock, stepAt, Walked, walked, stopped, before, onward, walk, walkFrom, started, walkOf}
-use Rattle.packet.specs.Reading.{Decoded, packet, refused, blockIn, packetIn, decoded, decode, readOf, nth, located, metricsPart, reportedIn, reportedOf}
-use Rattle.packet.specs.Tidy.{tidied, Outcome, outcome}
-use Rattle.packet.specs.declared.ReportBlock.{ReportBlock}
-use Rattle.packet.specs.declared.Cursor.{Cursor}
-use Rattle.packet.specs.declared.Start.{Start}
-use Rattle.packet.specs.declared.Start.the-variants as start
-use Rattle.packet.specs.declared.Step.{Step}
-use Rattle.packet.specs.declared.Step.the-variants.{Block, End, Refused}
-use Rattle.packet.specs.declared.Reading.the-variants as reading
-use Rattle.packet.specs.declared.BlockAnswer.{BlockAnswer}
-use Rattle.packet.specs.declared.BlockAnswer.the-variants as answer
-use Rattle.packet.specs.declared.MetricAnswer.the-variants as reported
-use Rattle.packet.specs.declared.Tidied.the-variants as tidying
-use Rattle.packet.proofs.Cases.{split-eq}
+use Rattle.octets.specs.Output.{OutputAfter, outputAfter}
+use Rattle.packet.specs.Packet.{Packet}
+use Rattle.packet.specs.Sizes.{mostReports, blockOctets}
 use Rattle.packet.proofs.Sizes.{even-octets, odd-octets}
-use Rattle.packet.proofs.Starts.{too-short, bad-version, bad-type, bad-format, bad-length, padded, sound, sound-header}
-use Rattle.packet.proofs.Steps.{step-end, step-no-header, step-many, step-overrun, step-filler, step-found, Found, found, next-at, next-room}
-use Rattle.packet.proofs.Walks.{walk-block, walk-end, walk-refused, walk-ind}
-use Rattle.packet.proofs.Answers.{walked-sound}
-use Rattle.packet_laws.specs.Asked.{metricsOf, metricOf}
-use Rattle.packet_laws.specs.Refused.{Long, Version, Typed, Sound, numReports, metricsEnd, SoundBlock, Walks, here, past, Fault, headerRoom, tooMany, metricsRoom, fillerSet, Given, BlockGiven, noBlock, MetricGiven, noNumber, TidyGiven}
-use Rattle.packet_laws.specs.Refused as given
+use Rattle.walk.specs.Walk.{versionOf, paddingOf, formatOf, typeOf, lengthOf, rtsAt, startOf, fillerAt, blockHere, stepAt}
+use Rattle.walk.specs.Walk.{Walked, walked, stopped, inFront, onward, walk, walkFrom, started, walkOf}
+use Rattle.walk.specs.declared.ReportBlock.{ReportBlock}
+use Rattle.walk.specs.declared.Cursor.{Cursor}
+use Rattle.walk.specs.declared.Start.{Start}
+use Rattle.walk.specs.declared.Step.{Step}
+use Rattle.walk.proofs.Starts.{too-short, bad-version, bad-type, bad-format, bad-length, padded, sound, sound-header}
+use Rattle.walk.proofs.Steps.{step-end, step-no-header, step-many, step-overrun, step-filler, step-found, found, next-at, next-room}
+use Rattle.walk.proofs.Walks.{walk-block, walk-end, walk-refused, walk-ind}
+use Rattle.reader.specs.Reading.{Decoded, packet, refused, blockIn, packetIn, decoded, decode, readOf}
+use Rattle.reader.specs.Reading.{nth, located, readBlock, metricsPart, reportedIn, reportedOf, readMetric}
+use Rattle.reader.specs.declared.BlockAnswer.{BlockAnswer}
+use Rattle.reader.proofs.Answers.{walked-sound}
+use Rattle.rewriter.specs.Rewrite.{rewriteOf}
+use Rattle.rewriter.specs.declared.Rewriting.{Rewriting}
+use Rattle.packet_laws.specs.Asked.{metricsOf, packetMetric}
+use Rattle.packet_laws.specs.Refused.{Long, Version, Typed, Sound, numReports, metricsEnd, SoundBlock, Walks, here, past}
+use Rattle.packet_laws.specs.Refused.{Fault, headerRoom, tooMany, metricsRoom, fillerSet}
+use Rattle.packet_laws.specs.Refused.{ReadingGiven, BlockGiven, noBlock, MetricGiven, noNumber, RewritingGiven}
 use Rattle.packet_laws.proofs.Asked.{accepted, accepted-octets, metric-asked}
+use Rattle.refusal.specs.declared.Refusal.the-variants.{OutputTooShort, PacketTooShort, BadVersion, BadType, BadLength, Padded, RunsIntoRts}
+use Rattle.refusal.specs.declared.Refusal.the-variants.{TooManyReports, FillerNotZero, NoBlock, NoNumber}
+use Rattle.packet.specs.Packet as form
+use Rattle.walk.specs.declared.Start.the-variants as start
+use Rattle.walk.specs.declared.Step.the-variants.{Block, End, Refused}
+use Rattle.reader.specs.declared.Reading.the-variants as reading
+use Rattle.reader.specs.declared.BlockAnswer.the-variants as answer
+use Rattle.reader.specs.declared.MetricAnswer.the-variants as reported
+use Rattle.rewriter.specs.declared.Rewriting.the-variants as rewriting
+use Rattle.packet_laws.specs.Refused as given
 
 -- blocks and packets are whole words, so the filler has room where the metrics have
 room-words : (rts at n : ℕ) → rts % 4 ≡ 0 → at % 4 ≡ 0 → at + 8 + 2 * n ≤ rts → at + blockOctets n ≤ rts
@@ -67,7 +74,7 @@ module _ (s : List ℕ) where
       split-eq (n % 2) 1 (λ o. (o, λ z. f (filler-odd at n o ∙ z))) (λ o. absurd (f (filler-zero at n (λ e. absurd (o e)))))
 
   module _ (at : ℕ) (q : rtsAt s % 4 ≡ 0) (a : at % 4 ≡ 0) where
-    sound-step : SoundBlock s at → Block (reportBlock s at (numReports s at)) (record { at = at + blockOctets (numReports s at) }) ≡ stepAt s at
+    sound-step : SoundBlock s at → Block (blockHere s at (numReports s at)) (record { at = at + blockOctets (numReports s at) }) ≡ stepAt s at
     sound-step b =
         let n = numReports s at in
         step-found s at n (omega (arith, b .header)) refl (b .few)
@@ -102,7 +109,7 @@ module _ (s : List ℕ) where
         counting : at < rtsAt s → 8 ≤ rtsAt s - at → Fault s at e
         counting h r =
             let n = numReports s at in
-            split-le n 16384
+            split-le n mostReports
             (λ g. split-le (metricsEnd s at) (rtsAt s)
             (λ m. split-eq (fillerAt s at n) 0
             (λ z. let l = step-found s at n r refl g (omega (arith, room-words (rtsAt s) at n q a m)) z in never (cc))
@@ -135,7 +142,7 @@ module _ (s : List ℕ) where
     stopped-walks (suc n) at e a h =
         by-step (stepAt s at) refl h (λ g. stopped-walks n (at + blockOctets (numReports s at)) e (next-words at (numReports s at) a) g)
       where
-        by-walk : (b : ReportBlock) (next : Cursor) (w : Walked) → stepAt s at ≡ Block b next → walk n s (next .at) ≡ w → before b w ≡ stopped e
+        by-walk : (b : ReportBlock) (next : Cursor) (w : Walked) → stepAt s at ≡ Block b next → walk n s (next .at) ≡ w → inFront b w ≡ stopped e
             → (walk n s (at + blockOctets (numReports s at)) ≡ stopped e → Stop (at + blockOctets (numReports s at)) e) → Stop at e
         by-walk b next (walked r) f g h rest = never (cc)
         by-walk b next (stopped x) f g h rest =
@@ -151,27 +158,27 @@ module _ (s : List ℕ) where
 
   -- ---- the reader
 
-  start-given : (e : Refusal) → startOf s ≡ start.Refused e → Given s e
+  start-given : (e : Refusal) → startOf s ≡ start.Refused e → ReadingGiven s e
   start-given e h =
       split-le 12 (length s)
-      (λ l. split-eq (getD s 0 0 / 64) 2
-      (λ v. split-eq (getD s 1 0) 205
-      (λ t. split-eq (getD s 0 0 % 32) 11
-      (λ f. split-eq (4 * (be16 s 2 + 1)) (length s)
-      (λ w. split-eq (getD s 0 0 / 32 % 2) 0
+      (λ l. split-eq (versionOf s) 2
+      (λ v. split-eq (typeOf s) 205
+      (λ t. split-eq (formatOf s) 11
+      (λ f. split-eq (lengthOf s) (length s)
+      (λ w. split-eq (paddingOf s) 0
       (λ u. let x = sound s l v t f w u in never (cc))
-      (λ u. let x = padded s l v t f w u in let z : Padded ≡ e = cc in subst (Given s) z (given.padded l v (t, f) w u)))
-      (λ w. let x = bad-length s l v t f w in let z : BadLength ≡ e = cc in subst (Given s) z (given.badLength l v (t, f) w)))
-      (λ f. let x = bad-format s l v t f in let z : BadType ≡ e = cc in subst (Given s) z (given.badType l v (λ g. f (g .1)))))
-      (λ t. let x = bad-type s l v t in let z : BadType ≡ e = cc in subst (Given s) z (given.badType l v (λ g. t (g .0)))))
-      (λ v. let x = bad-version s l v in let z : BadVersion ≡ e = cc in subst (Given s) z (given.badVersion l v)))
-      (λ l. let x = too-short s l in let z : PacketTooShort ≡ e = cc in subst (Given s) z (given.Given.tooShort (λ g. omega arith)))
+      (λ u. let x = padded s l v t f w u in let z : Padded ≡ e = cc in subst (ReadingGiven s) z (given.padded l v (t, f) w u)))
+      (λ w. let x = bad-length s l v t f w in let z : BadLength ≡ e = cc in subst (ReadingGiven s) z (given.badLength l v (t, f) w)))
+      (λ f. let x = bad-format s l v t f in let z : BadType ≡ e = cc in subst (ReadingGiven s) z (given.badType l v (λ g. f (g .1)))))
+      (λ t. let x = bad-type s l v t in let z : BadType ≡ e = cc in subst (ReadingGiven s) z (given.badType l v (λ g. t (g .0)))))
+      (λ v. let x = bad-version s l v in let z : BadVersion ≡ e = cc in subst (ReadingGiven s) z (given.badVersion l v)))
+      (λ l. let x = too-short s l in let z : PacketTooShort ≡ e = cc in subst (ReadingGiven s) z (given.ReadingGiven.tooShort (λ g. omega arith)))
 
-  walk-given : (e : Refusal) → walkOf s ≡ stopped e → Given s e
+  walk-given : (e : Refusal) → walkOf s ≡ stopped e → ReadingGiven s e
   unfolding walkOf
   walk-given e h = by-start (startOf s) refl h
     where
-      by-start : (d : Start) → startOf s ≡ d → started d s ≡ stopped e → Given s e
+      by-start : (d : Start) → startOf s ≡ d → started d s ≡ stopped e → ReadingGiven s e
       by-start (start.At c) g h =
           let k = sound-header s c g in
           let r = stopped-walks (rts-words (be16 s 2) (length s) (k .0 .words)) (length s) 8 e refl (rw (k .1) at h) in
@@ -179,11 +186,11 @@ module _ (s : List ℕ) where
       by-start (start.Refused x) g h = let z : x ≡ e = cc in start-given e (g ∙ ap start.Refused z)
 
   -- a refusal is given only if its condition holds, and none before it
-  pub refused-given : (e : Refusal) → decode s ≡ refused e → Given s e
+  pub refused-given : (e : Refusal) → decode s ≡ refused e → ReadingGiven s e
   unfolding decode
   refused-given e h = by-walk (walkOf s) refl h
     where
-      by-walk : (w : Walked) → walkOf s ≡ w → decoded w s ≡ refused e → Given s e
+      by-walk : (w : Walked) → walkOf s ≡ w → decoded w s ≡ refused e → ReadingGiven s e
       by-walk (walked bs) f h = never (cc)
       by-walk (stopped x) f h = let z : x ≡ e = cc in walk-given e (f ∙ ap stopped z)
 
@@ -196,10 +203,10 @@ module _ (s : List ℕ) where
   sound-walk h = rw (← sound s (h .0) (h .1) (h .2 .0) (h .2 .1) (h .3) (h .4))
 
   type-refused : Long s → Version s → (Typed s → ⊥) → start.Refused BadType ≡ startOf s
-  type-refused l v t = split-eq (getD s 1 0) 205 (λ e. bad-format s l v e (λ f. t (e, f))) (bad-type s l v)
+  type-refused l v t = split-eq (typeOf s) 205 (λ e. bad-format s l v e (λ f. t (e, f))) (bad-type s l v)
 
-  pub given-stopped : (e : Refusal) → Given s e → walkOf s ≡ stopped e
-  given-stopped e (given.Given.tooShort h) = start-stopped e (too-short s (split-le 12 (length s) (λ l. absurd (h l)) (λ l. l)))
+  pub given-stopped : (e : Refusal) → ReadingGiven s e → walkOf s ≡ stopped e
+  given-stopped e (given.ReadingGiven.tooShort h) = start-stopped e (too-short s (split-le 12 (length s) (λ l. absurd (h l)) (λ l. l)))
   given-stopped e (given.badVersion l v) = start-stopped e (bad-version s l v)
   given-stopped e (given.badType l v t) = start-stopped e (type-refused l v t)
   given-stopped e (given.badLength l v t w) = start-stopped e (bad-length s l v (t .0) (t .1) w)
@@ -207,18 +214,18 @@ module _ (s : List ℕ) where
   given-stopped e (given.inBlock at h w f) = sound-walk h ∙ walks-stopped (rts-words (be16 s 2) (length s) (h .3)) 8 at e refl w f
 
   -- and it is given if it does
-  pub given-refused : (e : Refusal) → Given s e → decode s ≡ refused e
+  pub given-refused : (e : Refusal) → ReadingGiven s e → decode s ≡ refused e
   unfolding decode
   given-refused e g = rw (given-stopped e g)
 
-  pub read-refused-given : (e : Refusal) → readOf (decode s) ≡ reading.Refused e → Given s e
+  pub read-refused-given : (e : Refusal) → readOf (decode s) ≡ reading.Refused e → ReadingGiven s e
   read-refused-given e h = by-decoded (decode s) refl h
     where
-      by-decoded : (d : Decoded) → decode s ≡ d → readOf d ≡ reading.Refused e → Given s e
+      by-decoded : (d : Decoded) → decode s ≡ d → readOf d ≡ reading.Refused e → ReadingGiven s e
       by-decoded (packet p) f h = never (cc)
       by-decoded (refused x) f h = let z : x ≡ e = cc in refused-given e (f ∙ ap refused z)
 
-  pub read-given-refused : (e : Refusal) → Given s e → readOf (decode s) ≡ reading.Refused e
+  pub read-given-refused : (e : Refusal) → ReadingGiven s e → readOf (decode s) ≡ reading.Refused e
   read-given-refused e g = rw (given-refused e g)
 
   -- ---- a packet is accepted exactly if its header is sound and sound blocks fill the room up to RTS
@@ -228,7 +235,7 @@ module _ (s : List ℕ) where
   walks-end q at a (past b w) then =
       let n = numReports s at in
       walks-end q (at + blockOctets n) (next-words at n a) w
-      (λ bs e. then (reportBlock s at n ∷ bs) (walk-block s at _ (sound-step at q a b) _ _ refl ∙ rw e))
+      (λ bs e. then (blockHere s at n ∷ bs) (walk-block s at _ (sound-step at q a b) _ _ refl ∙ rw e))
 
   pub when-accepted : Sound s → Walks s 8 (rtsAt s) → (e : Refusal) → decode s ≡ refused e → ⊥
   unfolding decode
@@ -267,7 +274,7 @@ module _ (s : List ℕ) where
   unfolding decode
   walked-read bs f = rw f
 
-  pub block-refused-given : (k : ℕ) (e : Refusal) → located (walkOf s) k ≡ answer.Refused e → BlockGiven s k e
+  pub block-refused-given : (k : ℕ) (e : Refusal) → readBlock s k ≡ answer.Refused e → BlockGiven s k e
   block-refused-given k e h = by-walk (walkOf s) refl h
     where
       by-walk : (w : Walked) → walkOf s ≡ w → located w k ≡ answer.Refused e → BlockGiven s k e
@@ -276,7 +283,7 @@ module _ (s : List ℕ) where
           subst (BlockGiven s k) (r .0) (noBlock (packetIn s bs) (walked-read bs f) (omega (arith, r .1, length-map bs (blockIn s))))
       by-walk (stopped x) f h = let z : x ≡ e = cc in given.BlockGiven.reader (walk-given e (f ∙ ap stopped z))
 
-  pub block-given-refused : (k : ℕ) (e : Refusal) → BlockGiven s k e → located (walkOf s) k ≡ answer.Refused e
+  pub block-given-refused : (k : ℕ) (e : Refusal) → BlockGiven s k e → readBlock s k ≡ answer.Refused e
   block-given-refused k e (given.BlockGiven.reader g) = rw (given-stopped e g)
   block-given-refused k e (noBlock p d l) =
       accepted s p d (λ bs f z.
@@ -284,17 +291,18 @@ module _ (s : List ℕ) where
       rw f (nth-past bs k (omega arith)))
 
   -- and its part is then empty
-  pub part-given-empty : (k : ℕ) (e : Refusal) → BlockGiven s k e → metricsPart (located (walkOf s) k) s ≡ []
+  pub part-given-empty : (k : ℕ) (e : Refusal) → BlockGiven s k e → metricsPart (readBlock s k) s ≡ []
   part-given-empty k e g = rw (block-given-refused k e g)
 
   -- ---- metric j of block k
 
-  metric-past : (bs : List form.Block) (k j : ℕ) → k < length bs → length (metricsOf bs k) ≤ j → metricOf bs k j ≡ reported.Refused NoNumber
+  metric-past : (bs : List form.Block) (k j : ℕ) → k < length bs → length (metricsOf bs k) ≤ j → packetMetric bs k j ≡ reported.Refused NoNumber
   metric-past [] k j l m = absurd (omega arith)
   metric-past (b ∷ bs) zero j l m = simp (le-leb (length (b .metrics)) j m)
   metric-past (b ∷ bs) (suc k) j l m = metric-past bs k j (omega arith) m
 
-  metric-none : (bs : List form.Block) (k j : ℕ) (e : Refusal) → k < length bs → metricOf bs k j ≡ reported.Refused e → (NoNumber ≡ e) × (length (metricsOf bs k) ≤ j)
+  metric-none : (bs : List form.Block) (k j : ℕ) (e : Refusal) → k < length bs → packetMetric bs k j ≡ reported.Refused e
+      → (NoNumber ≡ e) × (length (metricsOf bs k) ≤ j)
   metric-none [] k j e l h = absurd (omega arith)
   metric-none (b ∷ bs) zero j e l h =
       split-le (length (b .metrics)) j
@@ -302,46 +310,46 @@ module _ (s : List ℕ) where
       (λ m. let z = simp (lt-leb (length (b .metrics)) j m) at h in never (cc))
   metric-none (b ∷ bs) (suc k) j e l h = metric-none bs k j e (omega arith) h
 
-  pub metric-refused-given : (k j : ℕ) (e : Refusal) → reportedOf (located (walkOf s) k) s j ≡ reported.Refused e → MetricGiven s k j e
-  metric-refused-given k j e h = by-block (located (walkOf s) k) refl h
+  pub metric-refused-given : (k j : ℕ) (e : Refusal) → readMetric s k j ≡ reported.Refused e → MetricGiven s k j e
+  metric-refused-given k j e h = by-block (readBlock s k) refl h
     where
       found-walked : (b : ReportBlock) (w : Walked) → walkOf s ≡ w → located w k ≡ answer.Found b → reportedIn b s j ≡ reported.Refused e → MetricGiven s k j e
       found-walked b (walked bs) f g h =
           let p = packetIn s bs in
           split-le (length bs) k
           (λ l. let x = nth-past bs k l in never (cc))
-          (λ l. let m : metricOf (p .blocks) k j ≡ reported.Refused e = sym (metric-asked s p (walked-read bs f) k j) ∙ rw (f, g) h in
+          (λ l. let m : packetMetric (p .blocks) k j ≡ reported.Refused e = sym (metric-asked s p (walked-read bs f) k j) ∙ rw (f, g) h in
           let r = metric-none (p .blocks) k j e (omega (arith, length-map bs (blockIn s))) m in
           subst (MetricGiven s k j) (r .0) (noNumber p (walked-read bs f) (omega (arith, length-map bs (blockIn s))) (r .1)))
       found-walked b (stopped x) f g h = never (cc)
 
-      by-block : (a : BlockAnswer) → located (walkOf s) k ≡ a → reportedOf a s j ≡ reported.Refused e → MetricGiven s k j e
+      by-block : (a : BlockAnswer) → readBlock s k ≡ a → reportedOf a s j ≡ reported.Refused e → MetricGiven s k j e
       by-block (answer.Found b) g h = found-walked b (walkOf s) refl g h
       by-block (answer.Refused x) g h = let z : x ≡ e = cc in given.block (block-refused-given k e (g ∙ ap answer.Refused z))
 
-  pub metric-given-refused : (k j : ℕ) (e : Refusal) → MetricGiven s k j e → reportedOf (located (walkOf s) k) s j ≡ reported.Refused e
+  pub metric-given-refused : (k j : ℕ) (e : Refusal) → MetricGiven s k j e → readMetric s k j ≡ reported.Refused e
   metric-given-refused k j e (given.block g) = rw (block-given-refused k e g)
   metric-given-refused k j e (noNumber p d l m) = metric-asked s p d k j ∙ metric-past (p .blocks) k j l m
 
   -- ---- the rewriter
 
-  pub tidy-refused-given : (out : List ℕ) (e : Refusal) → tidied (decode s) out .answer ≡ tidying.Refused e → TidyGiven s out e
-  tidy-refused-given out e h = by-decoded (decode s) refl h
+  pub rewrite-refused-given : (out : List ℕ) (e : Refusal) → rewriteOf (decode s) out .answer ≡ rewriting.Refused e → RewritingGiven s out e
+  rewrite-refused-given out e h = by-decoded (decode s) refl h
     where
-      by-decoded : (d : Decoded) → decode s ≡ d → tidied d out .answer ≡ tidying.Refused e → TidyGiven s out e
-      by-decoded (refused x) f h = let z : x ≡ e = cc in given.TidyGiven.reader (refused-given e (f ∙ ap refused z))
+      by-decoded : (d : Decoded) → decode s ≡ d → rewriteOf d out .answer ≡ rewriting.Refused e → RewritingGiven s out e
+      by-decoded (refused x) f h = let z : x ≡ e = cc in given.RewritingGiven.reader (refused-given e (f ∙ ap refused z))
       by-decoded (packet p) f h =
           let z = rw (accepted-octets s p f) at h in
           split-le (length s) (length out)
           (λ l. let y = simp (le-ltb (length out) (length s) l) at z in never (cc))
           (λ l. let y = simp (lt-ltb (length out) (length s) l) at z in
           let x : OutputTooShort ≡ e = cc in
-          subst (TidyGiven s out) x (given.TidyGiven.tooShort p f l))
+          subst (RewritingGiven s out) x (given.RewritingGiven.tooShort p f l))
 
-  pub tidy-given-refused : (out : List ℕ) (e : Refusal) → TidyGiven s out e → tidied (decode s) out ≡ outcome (tidying.Refused e) out
-  tidy-given-refused out e (given.TidyGiven.reader g) = rw (given-refused e g)
-  tidy-given-refused out e (given.TidyGiven.tooShort p d l) = rw (d, accepted-octets s p d) (simp (lt-ltb (length out) (length s) l))
+  pub rewrite-given-refused : (out : List ℕ) (e : Refusal) → RewritingGiven s out e → rewriteOf (decode s) out ≡ outputAfter (rewriting.Refused e) out
+  rewrite-given-refused out e (given.RewritingGiven.reader g) = rw (given-refused e g)
+  rewrite-given-refused out e (given.RewritingGiven.tooShort p d l) = rw (d, accepted-octets s p d) (simp (lt-ltb (length out) (length s) l))
 
   -- a refused call changes nothing
-  pub tidy-refused-stays : (out : List ℕ) (e : Refusal) → tidied (decode s) out .answer ≡ tidying.Refused e → tidied (decode s) out .out ≡ out
-  tidy-refused-stays out e h = ap (λ (x : Outcome). x .out) (tidy-given-refused out e (tidy-refused-given out e h))
+  pub rewrite-refused-stays : (out : List ℕ) (e : Refusal) → rewriteOf (decode s) out .answer ≡ rewriting.Refused e → rewriteOf (decode s) out .output ≡ out
+  rewrite-refused-stays out e h = ap (λ (x : OutputAfter Rewriting). x .output) (rewrite-given-refused out e (rewrite-refused-given out e h))

@@ -1,16 +1,16 @@
--- Document 01, "Reading and tidying": what holds of a packet that was tidied.
+-- What holds of a packet that was rewritten: its octets are read as those of the packet before.
 use Prim.Native.Nat.{ℕ}
 use mathlib.Core.Path.{_≡_}
 use mathlib.Core.List.{List}
 use lib.ListN.{length, take, drop}
-use Rattle.packet.specs.Walk.{walkOf}
-use Rattle.packet.specs.Reading.{decode, readOf, located, reportedOf}
+use Rattle.reader.specs.Reading.{decode, readOf, readBlock, readMetric}
 
--- reading the octets t gives the answers that reading s gives: sender, RTS and number of blocks, each block, each metric's number and case
+-- reading the octets t gives the answers that reading s gives: sender, RTS and number of blocks; each block;
+-- each metric's number and case
 pub record SameAnswers (s t : List ℕ) : Type 0 where
   pub read : readOf (decode t) ≡ readOf (decode s)
-  pub block : (k : ℕ) → located (walkOf t) k ≡ located (walkOf s) k
-  pub metric : (k j : ℕ) → reportedOf (located (walkOf t) k) t j ≡ reportedOf (located (walkOf s) k) s j
+  pub block : (k : ℕ) → readBlock t k ≡ readBlock s k
+  pub metric : (k j : ℕ) → readMetric t k j ≡ readMetric s k j
 
 -- n octets were written, as many as s has: the same is read in them, and the output's others stay
 pub record Rewritten (s entry exit : List ℕ) (n : ℕ) : Type 0 where

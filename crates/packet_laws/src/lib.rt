@@ -1,1 +1,1 @@
-// Theorems about reading and tidying CCFB packets, in proofs/; there is no code here.
+// Theorems about reading and rewriting CCFB packets, in proofs/; there is no code here.

@@ -1,7 +1,8 @@
-// The refusals of every call, with their numbers.
+// The refusals of every call, and the numbers that a caller is given for them.
 ghost use mathlib.Core.Path.{_≡_};
 ghost use Rattle.refusal.specs.Numbers.{numberOf};
 
+// Why a call refuses: first arrivals and the store, then the writer, the arrival file, and the reader.
 pub enum Refusal {
     BadMark,
     NoFreePlace,
@@ -31,7 +32,7 @@ pub enum Refusal {
 
 // The number that a caller is given for a refusal.
 pub fn number(e: Refusal) -> u8
-    ensures { λ r. ⌜ r ≡ numberOf e ⌝ }
+    ensures value { λ r. ⌜ r ≡ numberOf e ⌝ }
 {
     match e {
         Refusal::BadMark => 1,

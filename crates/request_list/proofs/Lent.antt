@@ -22,7 +22,8 @@ module _ {A : Type 0} (d xs : List A) where
   -- all of them, or as many as it takes
   pub all-there : (n m : ℕ) → n ≤ length d → n ≤ length xs → take n xs ≡ take m xs → paste d 0 xs n ≡ sets d 0 (take m xs)
   all-there n m few h e =
-      ap (λ (k : ℕ). [] ++ take n xs ++ drop (0 + k) d) (sym (length-take-le n xs h)) ∙ sym (sets-eq (take n xs) d 0 (omega (arith, length-take-le n xs h))) ∙ ap (sets d 0) e
+      ap (λ (k : ℕ). [] ++ take n xs ++ drop (0 + k) d) (sym (length-take-le n xs h))
+      ∙ sym (sets-eq (take n xs) d 0 (omega (arith, length-take-le n xs h))) ∙ ap (sets d 0) e
 
   pub take-sets : length xs ≤ length d → take (length xs) (sets d 0 xs) ≡ xs
   take-sets h = ap (take (length xs)) (sets-eq xs d 0 (omega (arith, zero-add (length xs)))) ∙ take-at xs (drop (0 + length xs) d) (length xs) refl

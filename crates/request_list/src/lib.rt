@@ -1,21 +1,22 @@
-// The requests as a lent list of records.
+// Requests that C lends as a list of records, gathered into the array that the writer takes.
 ghost use mathlib.Core.Path.{_≡_};
 ghost use Rattle.request_list.specs.Lent.{gatheredOf};
+use cutting::MOST_REQUESTS;
 use cutting::Request;
 
-// The first 16 requests of a list as an array by value. Behind the last request it is blank.
-pub fn gathered(requests: &[Request]) -> [Request; 16]
-    ensures { λ r. ⌜ r ≡ gatheredOf (now (requests .entry)) ⌝ }
+// The first 16 requests of a list, as an array by value. What stands behind the last request is blank.
+pub fn gathered(requests: &[Request]) -> [Request; MOST_REQUESTS]
+    ensures value { λ r. ⌜ r ≡ gatheredOf (now (requests .entry)) ⌝ }
 {
     let mut all = [Request {
         ssrc: 0,
         begin: 0,
         count: 0,
-    }; 16];
+    }; MOST_REQUESTS];
     let mut i = 0;
     let mut n = requests.len();
-    if 16 < n {
-        n = 16;
+    if MOST_REQUESTS < n {
+        n = MOST_REQUESTS;
     }
     while i < n {
         all[i] = requests[i];

@@ -1,3 +1,1 @@
-pub mod Place
-pub mod Cell
 pub mod Store

@@ -1,3 +1,3 @@
 pub mod Number
-pub mod First
 pub mod Ring
+pub mod Steps

@@ -1,4 +1,1 @@
-pub mod Packets
-pub mod Requests
-pub mod Position
 pub mod Written

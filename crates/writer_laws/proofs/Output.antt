@@ -1,46 +1,49 @@
--- What a reader finds in packets that stand one behind the other. Assumes nothing.
+-- What a reader finds in packets that stand back to back. Assumes nothing.
 use mathlib.Core.Path.{_≡_, refl, sym, ap, ap₂, _∙_, subst}
 use mathlib.Core.List.{List, [], _∷_, _++_, map}
-use Prim.Native.Nat.{ℕ, zero, suc, _+_, _-_, _*_, _/_, _%_, _^_, _≤_, _<_}
+use Prim.Native.Nat.{ℕ, zero, suc, _+_, _%_, _^_, _≤_, _<_}
 use native.Mathlib.Omega.{arith}
-use lib.ListN.{length, take, drop, getD, length-append, length-map}
+use lib.ListN.{length, take, drop, getD, length-append}
 use lib.Seq.{take-at, drop-at}
 use borrow.Author.Tests.{eq-eqb, ne-eqb, lt-leb}
-use Rattle.refusal.specs.Lists.{All}
-use Rattle.refusal.proofs.Cases.{never}
-use Rattle.octets.specs.Octets.{be16, octets16, octets32}
-use Rattle.metric.specs.Metric.{decodeOf, encodeOf, seenOf}
+use Rattle.lists.specs.All.{All}
+use Rattle.lists.specs.declared.Found.{Found}
+use Rattle.lists.proofs.Cases.{never}
+use Rattle.lists.proofs.All.{all-left, all-right}
+use Rattle.octets.specs.Octets.{be16}
+use Rattle.metric.specs.Metric.{decodeOf}
 use Rattle.metric.proofs.Decoded.{reads-not-received}
 use Rattle.metric.proofs.ReadBack.{decode-encode}
-use Rattle.window.specs.declared.Found.{Found}
-use Rattle.window.specs.declared.Found.the-variants.{At, Nothing}
-use Rattle.store.specs.Place.{findOf}
-use Rattle.store.specs.Cell.{readCell, cellAt, metricAt}
-use Rattle.packet.specs.Packet as packet
-use Rattle.packet.specs.Walk.{Walked, walked, walkOf}
-use Rattle.packet.specs.Reading.{Decoded, decode, nth, located, reportedOf}
-use Rattle.packet.specs.declared.ReportBlock.{ReportBlock}
-use Rattle.packet.specs.declared.BlockAnswer.the-variants as answer
-use Rattle.packet.specs.declared.MetricAnswer.{MetricAnswer}
-use Rattle.packet.specs.declared.MetricAnswer.the-variants as asked
+use Rattle.places.specs.Place.{findOf}
+use Rattle.places.specs.Window.{cellAt}
+use Rattle.cells.specs.Cell.{readCell}
+use Rattle.store.specs.Store.{cellMetric}
+use Rattle.packet.specs.Sizes.{blocksOctets}
 use Rattle.packet.proofs.Sizes.{length-packet}
-use Rattle.packet_laws.specs.Asked.{laidBlock, laid, metricIn as metricAsk, metricOf as metricAsked}
+use Rattle.walk.specs.Walk.{Walked}
+use Rattle.walk.specs.declared.ReportBlock.{ReportBlock}
+use Rattle.reader.specs.Reading.{Decoded, decode, nth, located}
+use Rattle.reader.specs.declared.MetricAnswer.{MetricAnswer}
+use Rattle.packet_laws.specs.Asked.{laidBlock, laid, blockMetric, packetMetric}
 use Rattle.packet_laws.proofs.Asked.{metric-asked}
 use Rattle.packet_laws.proofs.ReadBack.{read-back, walk-back}
-use Rattle.cutting.specs.Cutting.{Block, Packet, Cutting, allBlocks, following, numbersFrom, streamOf, DifferentStreams}
+use Rattle.cutting.specs.Cutting.{CutBlock, CutPacket, Cutting, allBlocks, following, numbersFrom, streamOf, DifferentStreams}
 use Rattle.cutting.specs.Plan.{numberAfter}
 use Rattle.cutting.specs.declared.Request.{Request}
 use Rattle.cutting.proofs.Plan.{after-sum}
-use Rattle.cutting.proofs.Lists.{all-left, all-right}
 use Rattle.cutting.proofs.ToRules.{elsewhere}
-use Rattle.writer.specs.Packets.{metricBy, metricIn, reportBlock, reportPacket, encodePackets}
-use Rattle.writer.proofs.Metrics.{length-of}
-use Rattle.writer_laws.specs.Read.{firstOctets, walkLengths, packetsIn, requestOf, blockRead, blocksRead, cuttingRead, seenBy, MetricsRead}
-use Rattle.writer_laws.proofs.Small.{Small, metricOf}
+use Rattle.blocks.specs.Packets.{storeMetricAt, reportBlock, reportPacket, encodePackets}
+use Rattle.blocks.proofs.Metrics.{length-of}
+use Rattle.writer_laws.specs.Read.{firstOctets, walkLengths, packetsIn, requestOf, blockRead, blocksRead, cuttingRead, seenAt, MetricsRead}
+use Rattle.writer_laws.proofs.Small.{Small, metricAsked}
+use Rattle.lists.specs.declared.Found.the-variants.{At, Nothing}
+use Rattle.packet.specs.Packet as packet
+use Rattle.reader.specs.declared.BlockAnswer.the-variants as answer
+use Rattle.reader.specs.declared.MetricAnswer.the-variants as asked
 
 -- ---- the walk over length fields
 
-words : (bs : List packet.Block) → packet.blocksOctets bs % 4 ≡ 0
+words : (bs : List packet.Block) → blocksOctets (packet.reportCounts bs) % 4 ≡ 0
 words [] = refl
 words (b ∷ bs) = omega (arith, words bs)
 
@@ -95,30 +98,32 @@ request-stream (r ∷ rs) (suc i) d l =
     rw (ne-eqb (r .ssrc) (streamOf rs i) (elsewhere r rs i (d .0) (omega arith)), request-stream rs i (d .1) (omega arith))
 
 module _ (metric : ℕ → ℕ → ℕ) (rs : List Request) (d : DifferentStreams rs) where
-  blocks-read : (p : Packet) (at : ℕ) → All (λ b. b .request < length rs) p → map (blockRead rs) (laid at (map (reportBlock metric rs) p)) ≡ p
+  blocks-read : (p : CutPacket) (at : ℕ) → All (λ b. b .request < length rs) p → map (blockRead rs) (laid at (map (reportBlock metric rs) p)) ≡ p
   unfolding laid
   blocks-read [] at h = refl
   blocks-read (b ∷ p) at h =
-      ap₂ (λ (x : Block) (l : List Block). x ∷ l)
-      (ap₂ (λ (i k : ℕ). record { request = i; begin = b .begin; count = k }) (request-stream rs (b .request) d (h .0)) (length-of (metric (b .request)) (b .begin) (b .count)))
+      ap₂ (λ (x : CutBlock) (l : List CutBlock). x ∷ l)
+      (ap₂ (λ (i k : ℕ). record { request = i; begin = b .begin; count = k }) (request-stream rs (b .request) d (h .0))
+      (length-of (metric (b .request)) (b .begin) (b .count)))
       (blocks-read p _ (h .1))
 
-  pub cutting-read : (sender rts : ℕ) (c : Cutting) → All (λ b. b .request < length rs) (allBlocks c) → All packet.Fit (map (reportPacket metric rs sender rts) c)
+  pub cutting-read : (sender rts : ℕ) (c : Cutting) → All (λ b. b .request < length rs) (allBlocks c)
+      → All packet.Fit (map (reportPacket metric rs sender rts) c)
       → cuttingRead rs (map packet.encodePacket (map (reportPacket metric rs sender rts) c)) ≡ c
   cutting-read sender rts [] h f = refl
   cutting-read sender rts (p ∷ c) h f =
-      ap₂ (λ (x : Packet) (l : Cutting). x ∷ l)
+      ap₂ (λ (x : CutPacket) (l : Cutting). x ∷ l)
       (ap (blocksRead rs) (walk-back (reportPacket metric rs sender rts p) (f .0)) ∙ blocks-read p 8 (all-left _ p (allBlocks c) h))
       (cutting-read sender rts c (all-right _ p (allBlocks c) h) (f .1))
 
 -- ---- the metrics
 
-seen : (f : Found) (cells : List ℕ) (rts number : ℕ) → decodeOf (metricBy f cells rts number) ≡ seenBy f cells rts number
-unfolding metricAt
+seen : (f : Found) (cells : List ℕ) (rts number : ℕ) → decodeOf (storeMetricAt f cells rts number) ≡ seenAt f cells rts number
+unfolding cellMetric
 seen (At p) cells rts number = decode-encode (readCell (cellAt cells p number)) rts
 seen Nothing cells rts number = reads-not-received 0 (omega arith)
 
--- metric j of k numbers from s on is that of the number j after s
+-- metric j of k numbers that start at s is that of the number j after s
 get-metric : (m : ℕ → ℕ) (s k j : ℕ) → j < k → getD (map m (numbersFrom s k)) j 0 ≡ m (numberAfter s j)
 get-metric m s zero j h = absurd (omega arith)
 get-metric m s (suc k) zero h = refl
@@ -126,13 +131,13 @@ get-metric m s (suc k) (suc j) h = get-metric m (following s) k j (omega arith)
 
 module _ (places cells : List ℕ) (sender rts : ℕ) (rs : List Request) (x : All (λ r. r .ssrc < 2 ^ 32) rs) where
   abbrev metric : ℕ → ℕ → ℕ
-  metric = metricOf places cells sender rts rs x
+  metric = metricAsked places cells sender rts rs x
 
   abbrev Answered : ReportBlock → ℕ → MetricAnswer → Type 0
-  Answered b j a = a ≡ asked.Reported ((b .«begin_seq» + j) % 65536) (seenBy (findOf places (b .ssrc)) cells rts ((b .«begin_seq» + j) % 65536))
+  Answered b j a = a ≡ asked.Reported ((b .«begin_seq» + j) % 65536) (seenAt (findOf places (b .ssrc)) cells rts ((b .«begin_seq» + j) % 65536))
 
-  block-answered : (y : Block) (at j : ℕ) → Small y → j < length (map (metric (y .request)) (numbersFrom (y .begin) (y .count)))
-      → Answered (laidBlock at (reportBlock metric rs y)) j (metricAsk (reportBlock metric rs y) j)
+  block-answered : (y : CutBlock) (at j : ℕ) → Small y → j < length (map (metric (y .request)) (numbersFrom (y .begin) (y .count)))
+      → Answered (laidBlock at (reportBlock metric rs y)) j (blockMetric (reportBlock metric rs y) j)
   block-answered y at j h l =
       let m = metric (y .request) in
       let n = length-of m (y .begin) (y .count) in
@@ -140,16 +145,18 @@ module _ (places cells : List ℕ) (sender rts : ℕ) (rs : List Request) (x : A
       rw (lt-leb (length (map m (numbersFrom (y .begin) (y .count)))) j l, g)
       (ap (asked.Reported ((y .begin + j) % 65536)) (seen (findOf places (streamOf rs (y .request))) cells rts ((y .begin + j) % 65536)))
 
-  metric-answered : (p : Packet) (at k j : ℕ) (b : ReportBlock) → All Small p → nth (laid at (map (reportBlock metric rs) p)) k ≡ answer.Found b → j < b .«num_reports»
-      → Answered b j (metricAsked (map (reportBlock metric rs) p) k j)
+  metric-answered : (p : CutPacket) (at k j : ℕ) (b : ReportBlock) → All Small p
+      → nth (laid at (map (reportBlock metric rs) p)) k ≡ answer.Found b → j < b .«num_reports»
+      → Answered b j (packetMetric (map (reportBlock metric rs) p) k j)
   unfolding laid
   metric-answered [] at k j b h e l = never (cc)
   metric-answered (y ∷ p) at zero j b h e l =
       let z : laidBlock at (reportBlock metric rs y) ≡ b = cc in
-      subst (λ (x : ReportBlock). j < x .«num_reports» → Answered x j (metricAsk (reportBlock metric rs y) j)) z (block-answered y at j (h .0)) l
+      subst (λ (x : ReportBlock). j < x .«num_reports» → Answered x j (blockMetric (reportBlock metric rs y) j)) z (block-answered y at j (h .0)) l
   metric-answered (y ∷ p) at (suc k) j b h e l = metric-answered p _ k j b (h .1) e l
 
-  pub metrics-read : (p : Packet) → All Small p → packet.Fit (reportPacket metric rs sender rts p) → MetricsRead places cells rts (packet.encodePacket (reportPacket metric rs sender rts p))
+  pub metrics-read : (p : CutPacket) → All Small p → packet.Fit (reportPacket metric rs sender rts p)
+      → MetricsRead places cells rts (packet.encodePacket (reportPacket metric rs sender rts p))
   metrics-read p h f k j b e l =
       let q = reportPacket metric rs sender rts p in
       let w = walk-back q f in

@@ -1,30 +1,32 @@
--- The checks of the requests, in the document's words. Assumes nothing.
-use mathlib.Core.Path.{_≡_, refl, sym, ap, _∙_, subst}
+-- The checks of the requests, in the words of the rules. Assumes nothing.
+use mathlib.Core.Path.{_≡_, refl, sym, _∙_, subst}
 use mathlib.Core.Logic.{_≢_}
-use mathlib.Core.Bool.{Bool, true, false, cond, true≢false, false≢true}
+use mathlib.Core.Bool.{Bool, true, false, cond, true≢false}
 use mathlib.Core.List.{List, [], _∷_, _++_}
-use Prim.Native.Nat.{ℕ, zero, suc, _+_, _-_, _≤_, _<_}
+use Prim.Native.Nat.{ℕ, _-_, _≤_}
 use native.Mathlib.Omega.{arith}
 use native.Mathlib.Decide.{ℕ-discrete}
-use lib.Dec.{eqb, ltb, leb}
-use borrow.Author.Tests.{eqb-true, eqb-false, ltb-true, ltb-false, leb-true, leb-false, lt-ltb, le-ltb, le-leb, lt-leb, eq-eqb, ne-eqb}
-use Rattle.refusal.specs.Lists.{All}
-use Rattle.refusal.proofs.Cases.{never, split-le}
+use lib.Dec.{eqb}
+use borrow.Author.Tests.{eqb-true, leb-true, le-leb, eq-eqb}
+use Rattle.lists.specs.All.{All}
+use Rattle.lists.specs.declared.Found.{Found}
+use Rattle.lists.proofs.Cases.{never, split-le}
 use Rattle.refusal.specs.declared.Refusal.{Refusal}
-use Rattle.refusal.specs.declared.Refusal.the-variants.{NotHeld, StreamRepeated, BadRange}
 use Rattle.window.specs.Number.{distanceOf}
-use Rattle.window.specs.declared.Found.{Found}
-use Rattle.window.specs.declared.Found.the-variants as window
-use Rattle.store.specs.Place.{findOf, highestAt}
+use Rattle.window.specs.Ring.{cellsOfAPlace}
+use Rattle.places.specs.Place.{findOf, highestAt}
+use Rattle.places.proofs.Held.{lost-unheld, held-found, unheld-lost, found-held}
 use Rattle.cutting.specs.Cutting.{DifferentStreams}
 use Rattle.cutting.specs.declared.Request.{Request}
-use Rattle.writer.specs.declared.Checked.{Checked}
-use Rattle.writer.specs.declared.Checked.the-variants.{At, Fault}
-use Rattle.writer.specs.declared.Verdict.{Verdict}
-use Rattle.writer.specs.declared.Verdict.the-variants as verdict
-use Rattle.writer.specs.Requests.{named, inWindow, checkOf, andThen, checked}
-use Rattle.writer.proofs.Checks.{check-unheld, check-repeated, check-sound, check-outside, window-empty, window-in, window-out}
+use Rattle.requests.specs.declared.Checked.{Checked}
+use Rattle.requests.specs.declared.Verdict.{Verdict}
+use Rattle.requests.specs.Requests.{named, inWindow, checkOf, andThen, checked}
+use Rattle.requests.proofs.Checks.{check-unheld, check-repeated, check-sound, check-outside, window-empty, window-in, window-out}
 use Rattle.writer_laws.specs.Refused.{Named, here, there, InWindow, SoundAt, FaultIn, AllSound, none, more, FirstFault}
+use Rattle.refusal.specs.declared.Refusal.the-variants.{NotHeld, StreamRepeated, BadRange}
+use Rattle.lists.specs.declared.Found.the-variants as lists
+use Rattle.requests.specs.declared.Checked.the-variants.{At, Fault}
+use Rattle.requests.specs.declared.Verdict.the-variants as verdict
 
 -- ---- the tests
 
@@ -72,7 +74,7 @@ module _ (highest begin count : ℕ) where
         | yes e ↦ record { some = λ l. absurd (omega arith); none = λ z. eqb-true begin highest (sym (window-empty highest begin count e) ∙ t) }
         | no e ↦
             record {
-              some = λ l. split-le 2048 (distanceOf highest begin)
+              some = λ l. split-le cellsOfAPlace (distanceOf highest begin)
                   (λ h. absurd (true≢false (sym t ∙ window-out highest begin count _ e refl h)))
                   (λ h. (h, leb-true (count - 1) (distanceOf highest begin) (sym (window-in highest begin count _ e refl h) ∙ t)));
               none = λ z. absurd (e z);
@@ -94,29 +96,36 @@ module _ (highest begin count : ℕ) where
 module _ (places : List ℕ) (earlier : List Request) (r : Request) where
   sound-check : (p : ℕ) → SoundAt places earlier r p → checkOf places earlier r ≡ At p
   sound-check p s =
-      sym (check-sound places earlier r _ refl p (s .held) (not-named earlier (r .ssrc) (s .new)) _ refl (window-is _ _ _ (s .range)))
+      let found = held-found places (r .ssrc) p (s .highest) (s .held) in
+      sym (check-sound places earlier r _ refl p (found .0) (not-named earlier (r .ssrc) (s .new)) _ (sym (found .1)) (window-is _ _ _ (s .range)))
 
   fault-check : (e : Refusal) → FaultIn places earlier r e → checkOf places earlier r ≡ Fault e
-  fault-check e (FaultIn.notHeld f) = sym (check-unheld places earlier r _ refl f)
-  fault-check e (FaultIn.repeated p f n) = sym (check-repeated places earlier r _ refl p f (named-is earlier (r .ssrc) n))
-  fault-check e (FaultIn.badRange p f n w) = sym (check-outside places earlier r _ refl p f (not-named earlier (r .ssrc) n) _ refl (not-window _ _ _ w))
+  fault-check e (FaultIn.notHeld f) = sym (check-unheld places earlier r _ refl (unheld-lost places (r .ssrc) f))
+  fault-check e (FaultIn.repeated p h f n) =
+      sym (check-repeated places earlier r _ refl p (held-found places (r .ssrc) p h f .0) (named-is earlier (r .ssrc) n))
+  fault-check e (FaultIn.badRange p h f n w) =
+      let found = held-found places (r .ssrc) p h f in
+      sym (check-outside places earlier r _ refl p (found .0) (not-named earlier (r .ssrc) n) _ (sym (found .1)) (not-window _ _ _ w))
 
   -- To show P of a request's check: it is sound, or has a fault.
-  check-cases : (P : Checked → Type 0) → ((p : ℕ) → SoundAt places earlier r p → P (At p)) → ((e : Refusal) → FaultIn places earlier r e → P (Fault e)) → P (checkOf places earlier r)
+  check-cases : (P : Checked → Type 0) → ((p : ℕ) → SoundAt places earlier r p → P (At p))
+      → ((e : Refusal) → FaultIn places earlier r e → P (Fault e)) → P (checkOf places earlier r)
   check-cases P f g = by-found (findOf places (r .ssrc)) refl
     where
       by-found : (x : Found) → findOf places (r .ssrc) ≡ x → P (checkOf places earlier r)
-      by-found window.Nothing h = subst P (check-unheld places earlier r _ refl h) (g NotHeld (FaultIn.notHeld h))
-      by-found (window.At p) h = by (named earlier (r .ssrc)) refl (inWindow (highestAt places p) (r .begin) (r .count)) refl
+      by-found lists.Nothing h = subst P (check-unheld places earlier r _ refl h) (g NotHeld (FaultIn.notHeld (lost-unheld places (r .ssrc) h)))
+      by-found (lists.At p) h = by (named earlier (r .ssrc)) refl (inWindow (highestAt places p) (r .begin) (r .count)) refl
         where
           by : (a : Bool) → named earlier (r .ssrc) ≡ a → (b : Bool) → inWindow (highestAt places p) (r .begin) (r .count) ≡ b → P (checkOf places earlier r)
-          by true u b v = subst P (check-repeated places earlier r _ refl p h u) (g StreamRepeated (FaultIn.repeated p h (is-named earlier (r .ssrc) u)))
+          by true u b v = subst P (check-repeated places earlier r _ refl p h u)
+              (g StreamRepeated (FaultIn.repeated p (highestAt places p) (found-held places (r .ssrc) p h) (is-named earlier (r .ssrc) u)))
           by false u true v =
               subst P (check-sound places earlier r _ refl p h u _ refl v)
-              (f p (record { held = h; new = named-not earlier (r .ssrc) u; range = is-window _ _ _ v }))
+              (f p
+              (record { highest = highestAt places p; held = found-held places (r .ssrc) p h; new = named-not earlier (r .ssrc) u; range = is-window _ _ _ v }))
           by false u false v =
               subst P (check-outside places earlier r _ refl p h u _ refl v)
-              (g BadRange (FaultIn.badRange p h (named-not earlier (r .ssrc) u) (window-not _ _ _ v)))
+              (g BadRange (FaultIn.badRange p (highestAt places p) (found-held places (r .ssrc) p h) (named-not earlier (r .ssrc) u) (window-not _ _ _ v)))
 
 -- ---- all requests
 
@@ -161,7 +170,7 @@ module _ (places : List ℕ) where
   sound-different {earlier} (more {r = r} p s a) = (apart (r .ssrc) a (named-last earlier r), sound-different a)
 
   -- no range is longer than the window
-  pub sound-counts : {earlier rs : List Request} → AllSound places earlier rs → All (λ r. r .count ≤ 2048) rs
+  pub sound-counts : {earlier rs : List Request} → AllSound places earlier rs → All (λ r. r .count ≤ cellsOfAPlace) rs
   sound-counts none = tt
   sound-counts (more {r = r} p s a) =
       (split-le (r .count) 0 (λ h. omega arith) (λ h. let w = s .range .some h in omega arith), sound-counts a)

@@ -1,66 +1,70 @@
 -- What stands in the plan's packets fits its fields. Assumes nothing.
-use mathlib.Core.Path.{_≡_, refl, sym, ap, _∙_}
-use mathlib.Core.List.{List, [], _∷_, _++_, map}
-use Prim.Native.Nat.{ℕ, zero, suc, _+_, _-_, _*_, _/_, _%_, _^_, _≤_, _<_}
+use mathlib.Core.List.{List, [], _∷_, map}
+use Prim.Native.Nat.{ℕ, zero, suc, _-_, _^_, _≤_, _<_}
 use native.Mathlib.Omega.{arith}
-use lib.ListN.{length}
-use Rattle.refusal.specs.Lists.{All}
-use Rattle.refusal.proofs.Cases.{split-le}
-use Rattle.metric.specs.Metric.{atoOfAge, atoOf, encodeOf, ageOf}
-use Rattle.metric.specs.declared.Time.{Time}
-use Rattle.metric.specs.declared.Time.the-variants.{Unknown, Known}
+use Rattle.lists.specs.All.{All}
+use Rattle.lists.specs.declared.Found.{Found}
+use Rattle.lists.proofs.Cases.{split-le}
+use Rattle.metric.specs.Metric.{ageOf, longestAge, afterRts, atoOfAge, markUnit, encodeOf}
 use Rattle.metric.specs.declared.Cell.{Cell}
-use Rattle.metric.specs.declared.Cell.the-variants.{Empty, Filled}
 use Rattle.metric.proofs.Table.{after-row, over-row, else-row}
-use Rattle.window.specs.declared.Found.{Found}
-use Rattle.window.specs.declared.Found.the-variants.{At, Nothing}
-use Rattle.store.specs.Place.{findOf}
-use Rattle.store.specs.Cell.{readCell, cellAt, metricAt}
-use Rattle.packet.specs.Packet as packet
-use Rattle.cutting.specs.Cutting.{Block, Packet, Cutting, following, numbersFrom, blockOctets, blocksOctets, packetOctets, roundedDown, wholeBlocks, streamOf, PacketRules, Cuts, DifferentStreams}
-use Rattle.cutting.specs.Plan.{fitting, numberAfter, firstNumbers, laterNumbers, filledFrom, packetsFrom, mostPackets, plan}
+use Rattle.window.specs.Number.{sequenceNumbers}
+use Rattle.window.specs.Ring.{cellsOfAPlace}
+use Rattle.places.specs.Place.{findOf}
+use Rattle.places.specs.Window.{cellAt}
+use Rattle.cells.specs.Cell.{readCell}
+use Rattle.store.specs.Store.{cellMetric}
+use Rattle.packet.specs.Sizes.{blockOctets, packetOctets}
+use Rattle.cutting.specs.Cutting.{CutBlock, CutPacket, following, numbersFrom, wholeBlocks, streamOf, counts}
+use Rattle.cutting.specs.Limits.{leastLimit, mostLimit}
+use Rattle.cutting.specs.Plan.{fitting, numberAfter, filledFrom, packetsFrom, mostPackets, plan}
 use Rattle.cutting.specs.declared.Request.{Request}
 use Rattle.cutting.proofs.Plan.{filled-none, filled-cases}
-use Rattle.writer.specs.Packets.{metricBy, metricIn, reportBlock, reportPacket}
-use Rattle.writer.proofs.Metrics.{length-of}
+use Rattle.blocks.specs.Packets.{storeMetricAt, storeMetric, reportBlock, reportPacket}
+use Rattle.blocks.proofs.Metrics.{length-of}
 use Rattle.writer.proofs.Packets.{blocks-octets, packet-fits}
+use Rattle.metric.specs.declared.Time.the-variants.{Unknown, Known}
+use Rattle.metric.specs.declared.Cell.the-variants.{Empty, Filled}
+use Rattle.lists.specs.declared.Found.the-variants.{At, Nothing}
+use Rattle.packet.specs.Packet as packet
 
 -- ---- metrics
 
-ato-small : (age : ℕ) → atoOfAge age < 8192
+ato-small : (age : ℕ) → atoOfAge age < markUnit
 ato-small age =
-    split-le (2 ^ 31) age
+    split-le afterRts age
     (λ h. rw (after-row age h) (omega arith))
-    (λ h. split-le age 524096 (λ l. rw (else-row age l) (omega arith)) (λ l. rw (over-row age l h) (omega arith)))
+    (λ h. split-le age longestAge (λ l. rw (else-row age l) (omega arith)) (λ l. rw (over-row age l h) (omega arith)))
 
 encode-small : (cell : Cell) (rts : ℕ) → encodeOf cell rts < 2 ^ 16
 encode-small Empty rts = omega arith
 encode-small (Filled mark Unknown) rts = omega arith
 encode-small (Filled mark (Known t)) rts = omega (arith, ato-small (ageOf rts t))
 
-metric-by : (f : Found) (cells : List ℕ) (rts number : ℕ) → metricBy f cells rts number < 2 ^ 16
-unfolding metricAt
+metric-by : (f : Found) (cells : List ℕ) (rts number : ℕ) → storeMetricAt f cells rts number < 2 ^ 16
+unfolding cellMetric
 metric-by (At p) cells rts number = encode-small (readCell (cellAt cells p number)) rts
 metric-by Nothing cells rts number = omega arith
 
-metrics-small : (f : Found) (cells : List ℕ) (rts : ℕ) (ns : List ℕ) → All (λ m. m < 2 ^ 16) (map (metricBy f cells rts) ns)
+metrics-small : (f : Found) (cells : List ℕ) (rts : ℕ) (ns : List ℕ) → All (λ m. m < 2 ^ 16) (map (storeMetricAt f cells rts) ns)
 metrics-small f cells rts [] = tt
 metrics-small f cells rts (s ∷ ns) = (metric-by f cells rts s, metrics-small f cells rts ns)
 
 -- ---- blocks
 
-abbrev pub Small : Block → Type 0
-Small b = (b .begin < 65536) × (b .count ≤ 2048)
+abbrev pub Small : CutBlock → Type 0
+Small b = (b .begin < sequenceNumbers) × (b .count ≤ cellsOfAPlace)
 
-after-small : (s j : ℕ) → s < 65536 → numberAfter s j < 65536
+after-small : (s j : ℕ) → s < sequenceNumbers → numberAfter s j < sequenceNumbers
 after-small s zero h = h
 after-small s (suc j) h = after-small (following s) j (omega arith)
 
-pub whole-small : (i : ℕ) (rs : List Request) → All (λ r. (r .begin < 65536) × (r .count ≤ 2048)) rs → All Small (wholeBlocks i rs)
+pub whole-small : (i : ℕ) (rs : List Request) → All (λ r. (r .begin < sequenceNumbers) × (r .count ≤ cellsOfAPlace)) rs
+    → All Small (wholeBlocks i rs)
 whole-small i [] h = tt
 whole-small i (r ∷ rs) h = (h .0, whole-small (suc i) rs (h .1))
 
-filled-small : (room : ℕ) (w : List Block) → All Small w → All Small (filledFrom room w .packet) × All Small (filledFrom room w .rest)
+filled-small : (room : ℕ) (w : List CutBlock) → All Small w → All Small (filledFrom room w .packet) × All Small (filledFrom room w .rest)
 filled-small room [] h = rw (filled-none room) (tt, tt)
 filled-small room (b ∷ w) h =
     filled-cases (λ f. All Small (f .packet) × All Small (f .rest)) room b w
@@ -69,11 +73,11 @@ filled-small room (b ∷ w) h =
     (λ l k. (tt, h))
 
 -- a packet's blocks are small, and it is not over the limit
-pub record Fits (limit : ℕ) (p : Packet) : Type 0 where
+pub record Fits (limit : ℕ) (p : CutPacket) : Type 0 where
   pub blocks : All Small p
-  pub octets : packetOctets p ≤ limit
+  pub octets : packetOctets (counts p) ≤ limit
 
-packets-small : (most limit : ℕ) (w : List Block) → 12 ≤ limit → All Small w → All (Fits limit) (packetsFrom most limit w)
+packets-small : (most limit : ℕ) (w : List CutBlock) → 12 ≤ limit → All Small w → All (Fits limit) (packetsFrom most limit w)
 unfolding packetsFrom
 packets-small zero limit w l h = tt
 packets-small (suc most) limit [] l h = tt
@@ -81,7 +85,8 @@ packets-small (suc most) limit (b ∷ w) l h =
     let r = filled-small (limit - 12) (b ∷ w) h in
     (record { blocks = r .0; octets = packet-fits limit (b ∷ w) l }, packets-small most limit (filledFrom (limit - 12) (b ∷ w) .rest) l (r .1))
 
-pub plan-small : (limit : ℕ) (rs : List Request) → 24 ≤ limit → All (λ r. (r .begin < 65536) × (r .count ≤ 2048)) rs → All (Fits limit) (plan limit rs)
+pub plan-small : (limit : ℕ) (rs : List Request) → leastLimit ≤ limit
+    → All (λ r. (r .begin < sequenceNumbers) × (r .count ≤ cellsOfAPlace)) rs → All (Fits limit) (plan limit rs)
 plan-small limit rs l h = packets-small (mostPackets (wholeBlocks 0 rs)) limit (wholeBlocks 0 rs) (omega arith) (whole-small 0 rs h)
 
 -- ---- packets that are written
@@ -92,25 +97,26 @@ stream-small (r ∷ rs) zero h = h .0
 stream-small (r ∷ rs) (suc i) h = stream-small rs i (h .1)
 
 module _ (places cells : List ℕ) (sender rts : ℕ) (rs : List Request) (x : All (λ r. r .ssrc < 2 ^ 32) rs) where
-  abbrev pub metricOf : ℕ → ℕ → ℕ
-  metricOf i = metricIn places cells rts (streamOf rs i)
+  abbrev pub metricAsked : ℕ → ℕ → ℕ
+  metricAsked i = storeMetric places cells rts (streamOf rs i)
 
-  blocks-fit : (p : Packet) → All Small p → All packet.FitBlock (map (reportBlock metricOf rs) p)
+  blocks-fit : (p : CutPacket) → All Small p → All packet.FitBlock (map (reportBlock metricAsked rs) p)
   blocks-fit [] h = tt
   blocks-fit (b ∷ p) h = (
     record {
       ssrc = stream-small rs (b .request) x;
       begin = omega (arith, h .0 .0);
-      few = omega (arith, length-of (metricOf (b .request)) (b .begin) (b .count), h .0 .1);
+      few = omega (arith, length-of (metricAsked (b .request)) (b .begin) (b .count), h .0 .1);
       metrics = metrics-small (findOf places (streamOf rs (b .request))) cells rts (numbersFrom (b .begin) (b .count));
     },
     blocks-fit p (h .1),
   )
 
-  pub report-fits : (limit : ℕ) (p : Packet) → sender < 2 ^ 32 → rts < 2 ^ 32 → limit ≤ 9000 → Fits limit p → packet.Fit (reportPacket metricOf rs sender rts p)
+  pub report-fits : (limit : ℕ) (p : CutPacket) → sender < 2 ^ 32 → rts < 2 ^ 32 → limit ≤ mostLimit
+      → Fits limit p → packet.Fit (reportPacket metricAsked rs sender rts p)
   report-fits limit p s t l f = record {
     sender = s;
     rts = t;
     blocks = blocks-fit p (f .blocks);
-    words = omega (arith, blocks-octets metricOf rs p, f .octets);
+    words = omega (arith, blocks-octets metricAsked rs p, f .octets);
   }

@@ -1,26 +1,28 @@
--- What is shown of the writer's answer and output, for every input that is not refused and any lent store content. Assumes nothing.
-use mathlib.Core.Path.{_≡_, refl, sym, ap, _∙_, subst}
-use mathlib.Core.List.{List, [], _∷_, _++_, map}
+-- What is proved of the writer's answer and output, for every input that is not refused and any lent store
+-- content. Assumes nothing.
+use mathlib.Core.Path.{_≡_, sym, ap, _∙_}
+use mathlib.Core.List.{List, map}
 use Prim.Native.Nat.{ℕ, _+_, _^_, _≤_, _<_}
 use native.Mathlib.Omega.{arith}
 use lib.ListN.{length, take, drop, length-map}
 use lib.Seq.{sets, sets-eq, take-at, drop-at}
-use Rattle.refusal.specs.Lists.{All}
-use Rattle.packet.specs.Packet as packet
-use Rattle.packet.specs.Reading.{Decoded, decode}
-use Rattle.cutting.specs.Cutting.{Packet, Cutting, Cuts, streamOf}
+use Rattle.lists.specs.All.{All}
+use Rattle.lists.proofs.All.{all-map, all-zip, all-over}
+use Rattle.octets.specs.Output.{OutputAfter}
+use Rattle.reader.specs.Reading.{decode}
 use Rattle.cutting.specs.Plan.{plan, totalOctets}
 use Rattle.cutting.specs.declared.Request.{Request}
-use Rattle.cutting.proofs.Lists.{all-map, all-zip, all-over}
 use Rattle.cutting.proofs.Theorems.{plan-cuts, plan-fewest}
-use Rattle.writer.specs.declared.Answer.the-variants.{Written}
-use Rattle.writer.specs.Packets.{metricIn, reportPacket, encodePackets, packetsFor}
-use Rattle.writer.specs.Written.{Outcome, written}
-use Rattle.writer_laws.specs.Read.{packetsIn, cuttingRead, MetricsRead, InBits, Report}
+use Rattle.blocks.specs.Packets.{reportPacket, encodePackets, packetsFor}
+use Rattle.writer.specs.Written.{written}
+use Rattle.writer.specs.declared.Answer.{Answer}
+use Rattle.writer_laws.specs.Read.{packetsIn, MetricsRead, InBits, Report}
 use Rattle.writer_laws.proofs.Requests.{sound-different, sound-counts}
-use Rattle.writer_laws.proofs.Refusals.{octets, length-octets, Accepted, accepted-written, accepted}
-use Rattle.writer_laws.proofs.Small.{Fits, metricOf, plan-small, report-fits}
+use Rattle.writer_laws.proofs.Refusals.{length-octets, WritingAccepted, accepted-written, accepted}
+use Rattle.writer_laws.proofs.Small.{Fits, metricAsked, plan-small, report-fits}
 use Rattle.writer_laws.proofs.Output.{packets-in, all-accepted, cutting-read, metrics-read}
+use Rattle.packet.specs.Packet as packet
+use Rattle.writer.specs.declared.Answer.the-variants.{Written}
 
 -- ---- what is written stands in front, and the octets behind it stay
 
@@ -38,7 +40,7 @@ module _ (places cells : List ℕ) (sender rts limit n : ℕ) (rs : List Request
   output = written places cells sender rts limit n rs out .output
 
   module _ (bits : InBits sender rts rs) (p o : ℕ) (e : written places cells sender rts limit n rs out .answer ≡ Written p o) where
-    is : Accepted places cells sender rts limit n rs out × (p ≡ length (plan limit rs)) × (o ≡ totalOctets (plan limit rs))
+    is : WritingAccepted places cells sender rts limit n rs out × (p ≡ length (plan limit rs)) × (o ≡ totalOctets (plan limit rs))
     is = accepted places cells sender rts limit n rs out p o e
 
     abbrev packets : List packet.Packet
@@ -54,21 +56,23 @@ module _ (places cells : List ℕ) (sender rts limit n : ℕ) (rs : List Request
 
     fit : All packet.Fit packets
     fit =
-        all-over packet.Fit (reportPacket (metricOf places cells sender rts rs streams) rs sender rts) (plan limit rs)
-        (all-map (plan limit rs) (λ q f. report-fits places cells sender rts rs streams limit q (bits .sender-bits) (bits .rts-bits) (is .0 .proper .most) f) small)
+        all-over packet.Fit (reportPacket (metricAsked places cells sender rts rs streams) rs sender rts) (plan limit rs)
+        (all-map (plan limit rs) (λ q f. report-fits places cells sender rts rs streams limit q (bits .sender-bits) (bits .rts-bits) (is .0 .proper .most) f)
+        small)
 
     size : length (encodePackets packets) ≡ o
     size = length-octets places cells sender rts limit n rs out ∙ sym (is .2)
 
     content : output ≡ sets out 0 (encodePackets packets)
-    content = ap (λ (x : Outcome). x .output) (accepted-written places cells sender rts limit n rs out (is .0))
+    content = ap (λ (x : OutputAfter Answer). x .output) (accepted-written places cells sender rts limit n rs out (is .0))
 
     room : o ≤ length out
     room = omega (arith, is .0 .room, size)
 
     read : All (λ q. MetricsRead places cells rts (packet.encodePacket q)) packets
     read =
-        all-over (λ q. MetricsRead places cells rts (packet.encodePacket q)) (reportPacket (metricOf places cells sender rts rs streams) rs sender rts) (plan limit rs)
+        all-over (λ q. MetricsRead places cells rts (packet.encodePacket q))
+        (reportPacket (metricAsked places cells sender rts rs streams) rs sender rts) (plan limit rs)
         (all-map (plan limit rs)
         (λ q f.
         metrics-read places cells sender rts rs streams q (f .blocks)
@@ -86,7 +90,7 @@ module _ (places cells : List ℕ) (sender rts limit n : ℕ) (rs : List Request
     report =
         let d = sound-different places (is .0 .requests) in
         let k = plan-cuts limit rs d (is .0 .proper .least) in
-        let r = cutting-read (metricOf places cells sender rts rs streams) rs d sender rts (plan limit rs) (k .known) fit in
+        let r = cutting-read (metricAsked places cells sender rts rs streams) rs d sender rts (plan limit rs) (k .known) fit in
         record {
           room = room;
           past = ap (drop o) content ∙ behind (encodePackets packets) out o size room;

@@ -1,17 +1,19 @@
--- Document 01, "Refusal numbers": when each refusal of the writer is given, in the document's words. Order 4, 6, 7, then request by request 5, 8, 9, then 10.
-use Prim.Native.Nat.{ℕ, _+_, _-_, _≤_, _<_}
+-- When each refusal of the writer is given, in the words of the rules. The order is 4, 6, 7, then request by
+-- request 5, 8, 9, then 10.
+use Prim.Native.Nat.{ℕ, _-_, _≤_, _<_}
 use mathlib.Core.Path.{_≡_}
 use mathlib.Core.Logic.{_⊎_}
 use mathlib.Core.List.{List, [], _∷_, _++_}
 use lib.ListN.{length}
 use Rattle.refusal.specs.declared.Refusal.{Refusal}
-use Rattle.refusal.specs.declared.Refusal.the-variants.{BadStore, BadLimit, TooManyRequests, NotHeld, StreamRepeated, BadRange, OutputTooShort}
 use Rattle.window.specs.Number.{distanceOf}
-use Rattle.window.specs.declared.Found.the-variants.{At, Nothing}
-use Rattle.store.specs.Place.{findOf, highestAt}
-use Rattle.store.specs.Store.{Shaped}
+use Rattle.window.specs.Ring.{cellsOfAPlace}
+use Rattle.places.specs.Shape.{Shaped, Misshapen}
+use Rattle.places.specs.Held.{Unheld, HeldAt}
+use Rattle.cutting.specs.Limits.{leastLimit, mostLimit, mostRequests}
 use Rattle.cutting.specs.declared.Request.{Request}
-use Rattle.writer.specs.Packets.{encodePackets, packetsFor}
+use Rattle.blocks.specs.Packets.{encodePackets, packetsFor}
+use Rattle.refusal.specs.declared.Refusal.the-variants.{BadStore, BadLimit, TooManyRequests, NotHeld, StreamRepeated, BadRange, OutputTooShort}
 
 -- ---- a request
 
@@ -20,34 +22,41 @@ pub data Named (ssrc : ℕ) : List Request → Type 0 where
   here : {q : Request} {qs : List Request} → q .ssrc ≡ ssrc → Named ssrc (q ∷ qs)
   there : {q : Request} {qs : List Request} → Named ssrc qs → Named ssrc (q ∷ qs)
 
--- "A range of count 1 or more must lie in the stream's window: (H - begin) modulo 65536 is below 2,048 and at least count - 1. Count 0 needs begin = H."
+-- a range that is not empty lies in the stream's window: it begins less than 2,048 numbers behind the highest
+-- one, and at least count - 1 numbers behind it; an empty one begins at the highest number
 pub record InWindow (highest begin count : ℕ) : Type 0 where
-  pub some : 0 < count → (distanceOf highest begin < 2048) × (count - 1 ≤ distanceOf highest begin)
+  pub some : 0 < count → (distanceOf highest begin < cellsOfAPlace) × (count - 1 ≤ distanceOf highest begin)
   pub none : count ≡ 0 → begin ≡ highest
 
 module _ (places : List ℕ) (earlier : List Request) (r : Request) where
-  -- the place p holds the stream, no earlier request names it, and the range is as above
+  -- the request is sound: the place p holds its stream, no earlier request names it, and its range lies in
+  -- the window
   pub record SoundAt (p : ℕ) : Type 0 where
-    pub held : findOf places (r .ssrc) ≡ At p
+    pub highest : ℕ
+    pub held : HeldAt places (r .ssrc) p highest
     pub new : Named (r .ssrc) earlier → ⊥
-    pub range : InWindow (highestAt places p) (r .begin) (r .count)
+    pub range : InWindow highest (r .begin) (r .count)
 
-  -- 5 "stream not held", 8 "stream named by an earlier request", 9 "range not as above"
+  -- 5: the stream is not held; 8: an earlier request names it; 9: the range does not lie in the window
   pub data FaultIn : Refusal → Type 0 where
-    notHeld : findOf places (r .ssrc) ≡ Nothing → FaultIn NotHeld
-    repeated : (p : ℕ) → findOf places (r .ssrc) ≡ At p → Named (r .ssrc) earlier → FaultIn StreamRepeated
-    badRange : (p : ℕ) → findOf places (r .ssrc) ≡ At p → (Named (r .ssrc) earlier → ⊥) → (InWindow (highestAt places p) (r .begin) (r .count) → ⊥) → FaultIn BadRange
+    notHeld : Unheld places (r .ssrc) → FaultIn NotHeld
+    repeated : (p highest : ℕ) → HeldAt places (r .ssrc) p highest → Named (r .ssrc) earlier → FaultIn StreamRepeated
+    badRange : (p highest : ℕ) → HeldAt places (r .ssrc) p highest → (Named (r .ssrc) earlier → ⊥)
+        → (InWindow highest (r .begin) (r .count) → ⊥) → FaultIn BadRange
 
--- ---- requests after earlier ones
+-- ---- requests that come after `earlier` ones
 
 pub data AllSound (places : List ℕ) : List Request → List Request → Type 0 where
   none : {earlier : List Request} → AllSound places earlier []
-  more : {earlier : List Request} {r : Request} {rs : List Request} (p : ℕ) → SoundAt places earlier r p → AllSound places (earlier ++ r ∷ []) rs → AllSound places earlier (r ∷ rs)
+  more : {earlier : List Request} {r : Request} {rs : List Request} (p : ℕ) → SoundAt places earlier r p
+      → AllSound places (earlier ++ r ∷ []) rs → AllSound places earlier (r ∷ rs)
 
 -- the first request that is not sound
 pub data FirstFault (places : List ℕ) : List Request → List Request → Refusal → Type 0 where
-  here : {earlier : List Request} {r : Request} {rs : List Request} {e : Refusal} → FaultIn places earlier r e → FirstFault places earlier (r ∷ rs) e
-  later : {earlier : List Request} {r : Request} {rs : List Request} {e : Refusal} (p : ℕ) → SoundAt places earlier r p → FirstFault places (earlier ++ r ∷ []) rs e → FirstFault places earlier (r ∷ rs) e
+  here : {earlier : List Request} {r : Request} {rs : List Request} {e : Refusal} → FaultIn places earlier r e
+      → FirstFault places earlier (r ∷ rs) e
+  later : {earlier : List Request} {r : Request} {rs : List Request} {e : Refusal} (p : ℕ) → SoundAt places earlier r p
+      → FirstFault places (earlier ++ r ∷ []) rs e → FirstFault places earlier (r ∷ rs) e
 
 -- ---- the call
 
@@ -55,17 +64,18 @@ module _ (places cells : List ℕ) (sender rts limit n : ℕ) (rs : List Request
   -- no refusal 4, 6 or 7
   pub record Proper : Type 0 where
     pub store : Shaped places cells
-    pub least : 24 ≤ limit
-    pub most : limit ≤ 9000
-    pub few : n ≤ 16
+    pub least : leastLimit ≤ limit
+    pub most : limit ≤ mostLimit
+    pub few : n ≤ mostRequests
 
-  -- "output shorter than what is to be written"
+  -- the output is shorter than what is to be written
   abbrev pub TooShort : Type 0
   TooShort = length out < length (encodePackets (packetsFor places cells sender rts limit rs))
 
-  pub data Given : Refusal → Type 0 where
-    badStore : (Shaped places cells → ⊥) → Given BadStore
-    badLimit : Shaped places cells → (limit < 24) ⊎ (9000 < limit) → Given BadLimit
-    tooMany : Shaped places cells → 24 ≤ limit → limit ≤ 9000 → 16 < n → Given TooManyRequests
-    inRequest : {e : Refusal} → Proper → FirstFault places [] rs e → Given e
-    tooShort : Proper → AllSound places [] rs → TooShort → Given OutputTooShort
+  -- each refusal, with why it is given
+  pub data WritingGiven : Refusal → Type 0 where
+    badStore : Misshapen places cells → WritingGiven BadStore
+    badLimit : Shaped places cells → (limit < leastLimit) ⊎ (mostLimit < limit) → WritingGiven BadLimit
+    tooMany : Shaped places cells → leastLimit ≤ limit → limit ≤ mostLimit → mostRequests < n → WritingGiven TooManyRequests
+    inRequest : {e : Refusal} → Proper → FirstFault places [] rs e → WritingGiven e
+    tooShort : Proper → AllSound places [] rs → TooShort → WritingGiven OutputTooShort

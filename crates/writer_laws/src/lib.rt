@@ -1,1 +1,1 @@
-// Theorems about the writer's answer and output, in proofs/; there is no code here.
+// Theorems about the writer's answer and output, in proofs/. There is no code here.

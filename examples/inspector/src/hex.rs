@@ -2,12 +2,12 @@
 
 use std::fmt;
 
-/// Why a line is no hex.
+/// Why a line is not hex.
 #[derive(Debug, PartialEq, Eq)]
 pub enum Fault {
-    /// No digit stands in that column, from 1.
+    /// That column, counted from 1, has no hex digit.
     NoDigit { octet: u8, column: usize },
-    /// So many digits, an odd number.
+    /// An odd number of digits, this many.
     OddDigits(usize),
 }
 
@@ -22,7 +22,7 @@ impl fmt::Display for Fault {
     }
 }
 
-/// The octets of a line in lower or upper case. Spaces do not matter.
+/// The octets of a line in lower or upper case. Spaces are ignored.
 pub fn octets(line: &[u8]) -> Result<Vec<u8>, Fault> {
     let mut digits = Vec::with_capacity(line.len());
     for (&octet, column) in line.iter().zip(1..) {

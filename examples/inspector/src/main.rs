@@ -1,6 +1,6 @@
 //! Reads lines of hex from standard input, a CCFB packet each, as `ccfbline` prints them, and shows
-//! each packet as a person reads it, or why it is refused. The time in a cell is how long before
-//! RTS that number came.
+//! each packet in readable form, or why it is refused. The time in a cell is how long before RTS
+//! that number arrived.
 
 mod hex;
 mod show;
@@ -10,7 +10,7 @@ use std::io::{self, BufRead, Write};
 
 fn main() -> io::Result<()> {
     match inspect(io::stdin().lock(), io::stdout().lock()) {
-        // Who reads our output may stop early.
+        // The reader of our output may stop early.
         Err(error) if error.kind() == io::ErrorKind::BrokenPipe => Ok(()),
         end => end,
     }

@@ -1,9 +1,9 @@
-//! A packet as a person reads it.
+//! A packet in readable form.
 
 use ccfb::{Block, Mark, Metric, Packet};
 
-/// How many cells stand in a row.
-const CELLS: usize = 5;
+/// How many numbers a row shows, a cell each.
+const CELLS_OF_A_ROW: usize = 5;
 
 /// The sender and RTS, then each block.
 pub fn packet(packet: &Packet) -> String {
@@ -16,7 +16,7 @@ pub fn packet(packet: &Packet) -> String {
     for block in packet.blocks() {
         let metrics: Vec<(u16, Metric)> = block.metrics().collect();
         text += &format!("\n  stream {:08x}, {}{}", block.ssrc(), range(&block), sums(&metrics));
-        for row in metrics.chunks(CELLS) {
+        for row in metrics.chunks(CELLS_OF_A_ROW) {
             let cells: String = row.iter().map(|(_, metric)| cell(*metric)).collect();
             text += &format!("\n    {:>5}:{}", row[0].0, cells.trim_end());
         }
@@ -33,7 +33,7 @@ fn range(block: &Block) -> String {
     }
 }
 
-/// How many numbers are missing, and how many bear each mark; what there is none of is left out.
+/// How many numbers are missing, and how many carry each mark. Sums of 0 are left out.
 fn sums(metrics: &[(u16, Metric)]) -> String {
     let marks = [None, Some(Mark::NotEct), Some(Mark::Ect1), Some(Mark::Ect0), Some(Mark::Ce)];
     let sum = |mark: Option<Mark>| {
@@ -51,7 +51,7 @@ fn sums(metrics: &[(u16, Metric)]) -> String {
     }
 }
 
-/// What is said of a number, in a cell of fixed width.
+/// What a metric says, in a cell of fixed width.
 fn cell(metric: Metric) -> String {
     let said = match metric {
         Metric::NotReceived => "missing".to_string(),

@@ -1,13 +1,28 @@
 //! The program: one pass over standard input in fixed memory.
 
+use super::metric::CE;
 use super::{store, writer};
 use crate::calls::store::Words;
 use crate::cutting::Request;
-use crate::metric::Received;
-use crate::writer::Settings;
+use crate::metric::Arrived;
+use crate::refusal::Refusal;
+use crate::writer::Report;
 use std::io::{self, Read, Write};
 
-const CHUNK: usize = 12 * 4_096;
+const MAGIC: [u8; 3] = *b"ARL";
+const VERSION: [u8; 2] = [0, 1];
+const HEADER_OCTETS: usize = MAGIC.len() + VERSION.len();
+const RECORD_OCTETS: usize = 12;
+
+/// How many octets are read at once: whole records.
+const CHUNK: usize = RECORD_OCTETS * 4_096;
+
+const PLACES: usize = 4;
+const SENDER: u32 = 0xF1;
+const LIMIT: usize = 1_200;
+
+/// How many numbers of each stream are reported.
+const NEWEST: u16 = 4;
 
 /// The store, and the last known time.
 struct State {
@@ -17,7 +32,7 @@ struct State {
 
 impl State {
     /// Takes whole records.
-    fn take(&mut self, records: &[u8]) -> Result<(), u8> {
+    fn take(&mut self, records: &[u8]) -> Result<(), Refusal> {
         let (records, _) = records.as_chunks();
         for [s0, s1, s2, s3, n0, n1, mark, flag, t0, t1, t2, t3] in records.iter().copied() {
             let ssrc = u32::from_be_bytes([s0, s1, s2, s3]);
@@ -25,30 +40,29 @@ impl State {
             let time = match (flag, u32::from_be_bytes([t0, t1, t2, t3])) {
                 (1, time) => Some(time),
                 (0, 0) => None,
-                _ => return Err(14),
+                _ => return Err(Refusal::BadRecord),
             };
-            if mark > 3 {
-                return Err(14);
+            if mark > CE {
+                return Err(Refusal::BadRecord);
             }
             self.rts = time.unwrap_or(self.rts);
-            let received = Received { mark, time };
-            // Refusals 2 and 3 are passed over.
-            let _ = store::BASELINE.arrive(&mut self.words, ssrc, number, received, 0);
+            let arrived = Arrived { mark, time };
+            // A record that the store refuses, with 2 or 3, is skipped.
+            let _ = store::BASELINE.arrive(&mut self.words, ssrc, number, arrived, 0);
         }
         Ok(())
     }
 
     fn lines(&self) -> String {
-        let held = self.words.places.iter().filter(|word| *word >> 48 == 1);
-        let newest_four = |word: &u64| Request {
-            ssrc: (word >> 16) as u32,
-            begin: (*word as u16).wrapping_sub(3),
-            count: 4,
+        let held = self.words.places.iter().filter(|word| store::is_held(**word));
+        let newest = |word: &u64| {
+            let (ssrc, highest) = store::stream(*word);
+            Request { ssrc, begin: highest.wrapping_sub(NEWEST - 1), count: NEWEST }
         };
-        let requests: Vec<Request> = held.map(newest_four).collect();
-        let settings = Settings { own: 0xF1, rts: self.rts, limit: 1_200 };
-        let mut out = [0; 1_200];
-        let written = writer::BASELINE.write(&self.words, settings, &requests, &mut out);
+        let requests: Vec<Request> = held.map(newest).collect();
+        let report = Report { sender: SENDER, rts: self.rts, limit: LIMIT };
+        let mut out = [0; LIMIT];
+        let written = writer::BASELINE.write(&self.words, report, &requests, &mut out);
         let (_, octets) = written.expect("good requests");
         let hex: String = out[..octets].iter().map(|octet| format!("{octet:02x}")).collect();
         if hex.is_empty() {
@@ -59,16 +73,16 @@ impl State {
     }
 }
 
-fn read_all(input: &mut impl Read) -> io::Result<Result<String, u8>> {
+fn read_all(input: &mut impl Read) -> io::Result<Result<String, Refusal>> {
     let mut header = Vec::new();
-    input.by_ref().take(5).read_to_end(&mut header)?;
-    if header.len() < 5 || !header.starts_with(b"ARL") {
-        return Ok(Err(11));
+    input.by_ref().take(HEADER_OCTETS as u64).read_to_end(&mut header)?;
+    if header.len() < HEADER_OCTETS || !header.starts_with(&MAGIC) {
+        return Ok(Err(Refusal::BadFileMark));
     }
-    if header[3..] != [0, 1] {
-        return Ok(Err(12));
+    if !header.ends_with(&VERSION) {
+        return Ok(Err(Refusal::BadFileVersion));
     }
-    let mut state = State { words: Words::fresh(4), rts: 0 };
+    let mut state = State { words: Words::fresh(PLACES), rts: 0 };
     let mut chunk = Vec::with_capacity(CHUNK);
     loop {
         chunk.clear();
@@ -76,8 +90,8 @@ fn read_all(input: &mut impl Read) -> io::Result<Result<String, u8>> {
         if let Err(refusal) = state.take(&chunk) {
             return Ok(Err(refusal));
         }
-        if chunk.len() % 12 != 0 {
-            return Ok(Err(13));
+        if chunk.len() % RECORD_OCTETS != 0 {
+            return Ok(Err(Refusal::RecordCutShort));
         }
         if chunk.len() < CHUNK {
             return Ok(Ok(state.lines()));
@@ -89,7 +103,7 @@ fn read_all(input: &mut impl Read) -> io::Result<Result<String, u8>> {
 pub fn run() -> io::Result<()> {
     let lines = match read_all(&mut io::stdin().lock())? {
         Ok(lines) => lines,
-        Err(refusal) => format!("refused {refusal}\n"),
+        Err(refusal) => format!("refused {}\n", refusal.number()),
     };
     io::stdout().write_all(lines.as_bytes())
 }

@@ -1,40 +1,63 @@
 //! Metric calls.
 
-use crate::calls::metric::MetricCalls;
+use crate::calls::metric::{MetricCalls, NOT_RECEIVED, NO_TIME, OVER_RANGE, RECEIVED};
+use crate::refusal::Refusal;
 
 pub const BASELINE: MetricCalls = MetricCalls { encode, decode };
 
+/// ECN-CE, the highest mark.
+pub const CE: u8 = 3;
+
+/// R, the highest bit of a metric; the mark follows in two bits, the offset in 13.
+const R: u16 = 0x8000;
+const OFFSET_BITS: u32 = 13;
+const OFFSET_MASK: u16 = 0x1FFF;
+const MARK_MASK: u8 = 3;
+
+/// The offsets that are none.
+const OFFSET_OVER_RANGE: u16 = 0x1FFE;
+const OFFSET_NO_TIME: u16 = 0x1FFF;
+
+/// The longest age that has an offset, 8189/1024 s in 1/65536 s.
+const LONGEST_AGE: u32 = 524_096;
+
 /// The metric of a filled cell.
 #[inline]
-pub fn encoded(mark: u8, known: bool, time: u32, rts: u32) -> u16 {
+pub fn encoded(mark: u8, time_known: bool, time: u32, rts: u32) -> u16 {
     let age = rts.wrapping_sub(time);
-    let near = if age > 524_096 { 0x1FFE } else { (age >> 6) as u16 };
-    let offset = if !known | (age >> 31 == 1) { 0x1FFF } else { near };
-    0x8000 | (u16::from(mark) << 13) | offset
+    let near = if age > LONGEST_AGE { OFFSET_OVER_RANGE } else { (age >> 6) as u16 };
+    let offset = if !time_known | (age >> 31 == 1) { OFFSET_NO_TIME } else { near };
+    R | (u16::from(mark) << OFFSET_BITS) | offset
 }
 
 #[inline(never)]
-unsafe extern "C" fn encode(mark: u8, known: bool, time: u32, rts: u32, metric: *mut u16) -> u8 {
-    if mark > 3 {
-        return 1;
+unsafe extern "C" fn encode(
+    mark: u8,
+    time_known: bool,
+    time: u32,
+    rts: u32,
+    metric: *mut u16,
+) -> u8 {
+    if mark > CE {
+        return Refusal::BadMark.number();
     }
-    *metric = encoded(mark, known, time, rts);
+    *metric = encoded(mark, time_known, time, rts);
     0
 }
 
-/// The case of a metric; writes mark and offset where the case has them.
+/// The kind of a metric; writes mark and offset where the kind has them.
 #[inline]
 pub(super) unsafe fn decoded(metric: u16, mark: *mut u8, offset: *mut u16) -> u8 {
-    if metric < 0x8000 {
-        return 0;
+    if metric < R {
+        return NOT_RECEIVED;
     }
-    *mark = (metric >> 13) as u8 & 3;
-    match metric & 0x1FFF {
-        0x1FFF => 3,
-        0x1FFE => 2,
-        number => {
-            *offset = number;
-            1
+    *mark = (metric >> OFFSET_BITS) as u8 & MARK_MASK;
+    match metric & OFFSET_MASK {
+        OFFSET_NO_TIME => NO_TIME,
+        OFFSET_OVER_RANGE => OVER_RANGE,
+        value => {
+            *offset = value;
+            RECEIVED
         }
     }
 }

@@ -2,10 +2,34 @@
 
 use super::metric::decoded;
 use crate::calls::packet::PacketCalls;
+use crate::refusal::Refusal;
 use std::slice;
 
 pub const BASELINE: PacketCalls =
     PacketCalls { read, block, block_metrics, metric, first_block, next_block, metric_at, rewrite };
+
+/// The first octet has the version in two bits, the padding flag in one and FMT in five; the
+/// second is the type.
+const VERSION: u8 = 2;
+const PADDING_FLAG: u8 = 0x20;
+const FMT_MASK: u8 = 0x1F;
+const FMT: u8 = 11;
+const TYPE: u8 = 205;
+
+/// Where the sender is, and the length of a header that ends with it.
+const SENDER_AT: usize = 4;
+pub const HEADER_OCTETS: usize = 8;
+
+/// Where in a block its fields are, and the length of a block's header.
+const BEGIN_AT: usize = 4;
+const COUNT_AT: usize = 6;
+pub const BLOCK_HEADER_OCTETS: usize = 8;
+
+pub const RTS_OCTETS: usize = 4;
+
+const MOST_REPORTS: usize = 16_384;
+
+const NO_BLOCK: u8 = Refusal::NoBlock.number();
 
 /// A block found by the walk.
 #[derive(Clone, Copy)]
@@ -13,6 +37,13 @@ struct Found {
     /// Where its header starts.
     at: usize,
     count: usize,
+}
+
+impl Found {
+    #[inline]
+    fn metrics_at(&self) -> usize {
+        self.at + BLOCK_HEADER_OCTETS
+    }
 }
 
 #[inline]
@@ -27,16 +58,16 @@ fn be32(octets: &[u8], at: usize) -> u32 {
 
 #[inline]
 fn header(packet: &[u8]) -> u8 {
-    if packet.len() < 12 {
-        21
-    } else if packet[0] >> 6 != 2 {
-        22
-    } else if packet[1] != 205 || packet[0] & 31 != 11 {
-        23
+    if packet.len() < HEADER_OCTETS + RTS_OCTETS {
+        Refusal::PacketTooShort.number()
+    } else if packet[0] >> 6 != VERSION {
+        Refusal::BadVersion.number()
+    } else if packet[1] != TYPE || packet[0] & FMT_MASK != FMT {
+        Refusal::BadType.number()
     } else if packet.len() != 4 * (usize::from(be16(packet, 2)) + 1) {
-        24
-    } else if packet[0] & 32 != 0 {
-        25
+        Refusal::BadLength.number()
+    } else if packet[0] & PADDING_FLAG != 0 {
+        Refusal::Padded.number()
     } else {
         0
     }
@@ -46,40 +77,40 @@ fn header(packet: &[u8]) -> u8 {
 #[inline]
 fn block_at(packet: &[u8], end: usize, at: usize) -> Result<(Found, usize), u8> {
     if at >= end {
-        return Err(29);
+        return Err(NO_BLOCK);
     }
-    if end - at < 8 {
-        return Err(26);
+    if end - at < BLOCK_HEADER_OCTETS {
+        return Err(Refusal::RunsIntoRts.number());
     }
-    let count = usize::from(be16(packet, at + 6));
-    if count > 16_384 {
-        return Err(27);
+    let count = usize::from(be16(packet, at + COUNT_AT));
+    if count > MOST_REPORTS {
+        return Err(Refusal::TooManyReports.number());
     }
-    let next = at + 8 + 2 * (count + count % 2);
+    let next = at + BLOCK_HEADER_OCTETS + 2 * (count + count % 2);
     if next > end {
-        return Err(26);
+        return Err(Refusal::RunsIntoRts.number());
     }
     if count % 2 == 1 && be16(packet, next - 2) != 0 {
-        return Err(28);
+        return Err(Refusal::FillerNotZero.number());
     }
     Ok((Found { at, count }, next))
 }
 
-/// Walks all blocks and hands each to `visit`.
+/// Walks over all blocks and calls `visit` with each.
 #[inline]
 fn walk(packet: &[u8], mut visit: impl FnMut(Found)) -> u8 {
-    let refusal = header(packet);
-    if refusal != 0 {
-        return refusal;
+    let refused = header(packet);
+    if refused != 0 {
+        return refused;
     }
-    let mut at = 8;
+    let mut at = HEADER_OCTETS;
     loop {
-        match block_at(packet, packet.len() - 4, at) {
+        match block_at(packet, packet.len() - RTS_OCTETS, at) {
             Ok((found, next)) => {
                 visit(found);
                 at = next;
             }
-            Err(29) => return 0,
+            Err(NO_BLOCK) => return 0,
             Err(refusal) => return refusal,
         }
     }
@@ -90,16 +121,16 @@ fn walk(packet: &[u8], mut visit: impl FnMut(Found)) -> u8 {
 fn find(packet: &[u8], k: usize) -> Result<Found, u8> {
     let mut found = None;
     let mut passed = 0;
-    let refusal = walk(packet, |block| {
+    let refused = walk(packet, |block| {
         if passed == k {
             found = Some(block);
         }
         passed += 1;
     });
-    match (refusal, found) {
+    match (refused, found) {
         (0, Some(block)) => Ok(block),
-        (0, None) => Err(29),
-        _ => Err(refusal),
+        (0, None) => Err(NO_BLOCK),
+        _ => Err(refused),
     }
 }
 
@@ -113,13 +144,13 @@ unsafe extern "C" fn read(
 ) -> u8 {
     let packet = slice::from_raw_parts(packet, len);
     let mut count = 0;
-    let refusal = walk(packet, |_| count += 1);
-    if refusal == 0 {
-        *sender = be32(packet, 4);
-        *rts = be32(packet, len - 4);
+    let refused = walk(packet, |_| count += 1);
+    if refused == 0 {
+        *sender = be32(packet, SENDER_AT);
+        *rts = be32(packet, len - RTS_OCTETS);
         *blocks = count;
     }
-    refusal
+    refused
 }
 
 #[inline(never)]
@@ -136,7 +167,7 @@ unsafe extern "C" fn block(
         Err(refusal) => refusal,
         Ok(found) => {
             *ssrc = be32(packet, found.at);
-            *begin = be16(packet, found.at + 4);
+            *begin = be16(packet, found.at + BEGIN_AT);
             *count = found.count as u16;
             0
         }
@@ -148,17 +179,17 @@ unsafe extern "C" fn block_metrics(
     packet: *const u8,
     len: usize,
     k: usize,
-    offset: *mut usize,
-    length: *mut usize,
+    metrics_at: *mut usize,
+    metrics_length: *mut usize,
 ) -> u8 {
     match find(slice::from_raw_parts(packet, len), k) {
         Err(refusal) => {
-            (*offset, *length) = (0, 0);
+            (*metrics_at, *metrics_length) = (0, 0);
             refusal
         }
         Ok(found) => {
-            *offset = found.at + 8;
-            *length = 2 * found.count;
+            *metrics_at = found.metrics_at();
+            *metrics_length = 2 * found.count;
             0
         }
     }
@@ -179,10 +210,10 @@ unsafe extern "C" fn metric(
     let packet = slice::from_raw_parts(packet, len);
     match find(packet, k) {
         Err(refusal) => refusal,
-        Ok(found) if j >= found.count => 30,
+        Ok(found) if j >= found.count => Refusal::NoNumber.number(),
         Ok(found) => {
-            *number = be16(packet, found.at + 4).wrapping_add(j as u16);
-            *kind = decoded(be16(packet, found.at + 8 + 2 * j), mark, offset);
+            *number = be16(packet, found.at + BEGIN_AT).wrapping_add(j as u16);
+            *kind = decoded(be16(packet, found.metrics_at() + 2 * j), mark, offset);
             0
         }
     }
@@ -190,11 +221,11 @@ unsafe extern "C" fn metric(
 
 #[inline(never)]
 unsafe extern "C" fn first_block(packet: *const u8, len: usize, at: *mut usize) -> u8 {
-    let refusal = header(slice::from_raw_parts(packet, len));
-    if refusal == 0 {
-        *at = 8;
+    let refused = header(slice::from_raw_parts(packet, len));
+    if refused == 0 {
+        *at = HEADER_OCTETS;
     }
-    refusal
+    refused
 }
 
 #[inline(never)]
@@ -205,17 +236,17 @@ unsafe extern "C" fn next_block(
     ssrc: *mut u32,
     begin: *mut u16,
     count: *mut u16,
-    metrics: *mut usize,
+    metrics_at: *mut usize,
 ) -> u8 {
     let packet = slice::from_raw_parts(packet, len);
-    match block_at(packet, len.saturating_sub(4), *at) {
+    match block_at(packet, len.saturating_sub(RTS_OCTETS), *at) {
         Err(refusal) => refusal,
         Ok((found, next)) => {
             *at = next;
             *ssrc = be32(packet, found.at);
-            *begin = be16(packet, found.at + 4);
+            *begin = be16(packet, found.at + BEGIN_AT);
             *count = found.count as u16;
-            *metrics = found.at + 8;
+            *metrics_at = found.metrics_at();
             0
         }
     }
@@ -231,7 +262,7 @@ unsafe extern "C" fn metric_at(
     offset: *mut u16,
 ) -> u8 {
     if j >= len / 2 {
-        return 30;
+        return Refusal::NoNumber.number();
     }
     let part = slice::from_raw_parts(part, len);
     *kind = decoded(be16(part, 2 * j), mark, offset);
@@ -247,18 +278,20 @@ unsafe extern "C" fn rewrite(
     written: *mut usize,
 ) -> u8 {
     let packet = slice::from_raw_parts(packet, len);
-    let refusal = walk(packet, |_| ());
-    if refusal != 0 {
-        return refusal;
+    let refused = walk(packet, |_| ());
+    if refused != 0 {
+        return refused;
     }
     if out_len < len {
-        return 10;
+        return Refusal::OutputTooShort.number();
     }
     let out = slice::from_raw_parts_mut(out, len);
     out.copy_from_slice(packet);
     walk(packet, |found| {
-        let metrics = &mut out[found.at + 8..found.at + 8 + 2 * found.count];
+        let start = found.metrics_at();
+        let metrics = &mut out[start..start + 2 * found.count];
         for metric in metrics.chunks_exact_mut(2) {
+            // R, the highest bit, is not set.
             if metric[0] < 0x80 {
                 metric.fill(0);
             }

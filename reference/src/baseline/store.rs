@@ -1,40 +1,82 @@
 //! Store calls.
 
+use super::metric::CE;
 use crate::calls::store::StoreCalls;
+use crate::refusal::Refusal;
 use std::slice;
 
 pub const BASELINE: StoreCalls = StoreCalls { arrive, forget, place };
 
-const HELD: u64 = 1 << 32;
+pub const MOST_PLACES: usize = 16;
+pub const CELLS_OF_A_PLACE: usize = 2_048;
+
+/// How far ahead of the highest number a number can be.
+const FARTHEST_AHEAD: u16 = 32_767;
+
+/// The word of a held place is HELD + 65536 * SSRC + highest number.
+const HELD: u64 = 1 << 48;
+const SSRC_SHIFT: u32 = 16;
+
+/// The word of a filled cell is FILLED, TIME_KNOWN if the time is known, the mark in the two lowest
+/// bits, and the time above these four bits.
+pub const FILLED: u64 = 8;
+pub const TIME_KNOWN: u64 = 4;
+pub const MARK_MASK: u64 = 3;
+pub const TIME_SHIFT: u32 = 4;
 
 #[inline]
-pub fn shaped(places_len: usize, cells_len: usize) -> bool {
-    places_len.wrapping_sub(1) < 16 && cells_len == 2_048 * places_len
+pub fn is_shaped(places_len: usize, cells_len: usize) -> bool {
+    places_len.wrapping_sub(1) < MOST_PLACES && cells_len == CELLS_OF_A_PLACE * places_len
 }
 
 /// The first place that holds `ssrc`.
 #[inline]
-pub fn holder(places: &[u64], ssrc: u32) -> Option<usize> {
-    let key = HELD | u64::from(ssrc);
-    places.iter().position(|word| word >> 16 == key)
+pub fn find(places: &[u64], ssrc: u32) -> Option<usize> {
+    let key = place_word(ssrc, 0) >> SSRC_SHIFT;
+    places.iter().position(|word| word >> SSRC_SHIFT == key)
 }
 
 #[inline]
-fn word(ssrc: u32, highest: u16) -> u64 {
-    (HELD | u64::from(ssrc)) << 16 | u64::from(highest)
+pub fn is_held(word: u64) -> bool {
+    word / HELD == 1
+}
+
+/// The SSRC and the highest number of a held place.
+#[inline]
+pub fn stream(word: u64) -> (u32, u16) {
+    ((word >> SSRC_SHIFT) as u32, word as u16)
+}
+
+#[inline]
+pub fn place_word(ssrc: u32, highest: u16) -> u64 {
+    HELD | u64::from(ssrc) << SSRC_SHIFT | u64::from(highest)
+}
+
+#[inline]
+pub fn filled_word(mark: u8, time_known: bool, time: u32) -> u64 {
+    let known = if time_known { TIME_KNOWN } else { 0 };
+    u64::from(time) << TIME_SHIFT | FILLED | known | u64::from(mark)
+}
+
+/// The cells of place `k`, a ring.
+#[inline]
+fn ring_of(cells: &mut [u64], k: usize) -> &mut [u64] {
+    let start = CELLS_OF_A_PLACE * k;
+    &mut cells[start..start + CELLS_OF_A_PLACE]
 }
 
 /// Empties the cells of the `count` numbers after `highest`.
 fn empty_after(ring: &mut [u64], highest: u16, count: u16) {
-    if count >= 2_048 {
+    let count = usize::from(count);
+    if count >= CELLS_OF_A_PLACE {
         ring.fill(0);
         return;
     }
-    let start = (usize::from(highest) + 1) % 2_048;
-    let end = start + usize::from(count);
-    ring[start..end.min(2_048)].fill(0);
-    if end > 2_048 {
-        ring[..end - 2_048].fill(0);
+    let start = (usize::from(highest) + 1) % CELLS_OF_A_PLACE;
+    let end = start + count;
+    ring[start..end.min(CELLS_OF_A_PLACE)].fill(0);
+    if end > CELLS_OF_A_PLACE {
+        ring[..end - CELLS_OF_A_PLACE].fill(0);
     }
 }
 
@@ -48,55 +90,55 @@ unsafe extern "C" fn arrive(
     ssrc: u32,
     number: u16,
     mark: u8,
-    known: bool,
+    time_known: bool,
     time: u32,
 ) -> u8 {
-    if !shaped(places_len, cells_len) {
-        return 4;
+    if !is_shaped(places_len, cells_len) {
+        return Refusal::BadStore.number();
     }
-    if mark > 3 {
-        return 1;
+    if mark > CE {
+        return Refusal::BadMark.number();
     }
     let places = slice::from_raw_parts_mut(places, places_len);
     let cells = slice::from_raw_parts_mut(cells, cells_len);
-    let filled = u64::from(time) << 4 | 8 | u64::from(known) << 2 | u64::from(mark);
-    let Some(place) = holder(places, ssrc) else {
+    let filled = filled_word(mark, time_known, time);
+    let Some(k) = find(places, ssrc) else {
         return start(places, cells, ssrc, number, filled);
     };
-    let ring = &mut cells[2_048 * place..2_048 * place + 2_048];
-    record(&mut places[place], ring, ssrc, number, filled)
+    resume(&mut places[k], ring_of(cells, k), ssrc, number, filled)
 }
 
 /// An arrival of a stream that is held.
 #[inline]
-fn record(place: &mut u64, ring: &mut [u64], ssrc: u32, number: u16, filled: u64) -> u8 {
+fn resume(place: &mut u64, ring: &mut [u64], ssrc: u32, number: u16, filled: u64) -> u8 {
     let highest = *place as u16;
     let ahead = number.wrapping_sub(highest);
-    let cell = usize::from(number) % 2_048;
-    if ahead.wrapping_sub(1) < 32_767 {
+    let behind = usize::from(highest.wrapping_sub(number));
+    let cell = usize::from(number) % CELLS_OF_A_PLACE;
+    if ahead.wrapping_sub(1) < FARTHEST_AHEAD {
         if ahead > 1 {
             empty_after(ring, highest, ahead - 1);
         }
-        *place = word(ssrc, number);
+        *place = place_word(ssrc, number);
         ring[cell] = filled;
-    } else if highest.wrapping_sub(number) >= 2_048 {
-        return 3;
-    } else if ring[cell] & 8 == 0 {
+    } else if behind >= CELLS_OF_A_PLACE {
+        return Refusal::TooOld.number();
+    } else if ring[cell] & FILLED == 0 {
         ring[cell] = filled;
-    } else if filled & 3 == 3 {
-        ring[cell] |= 3;
+    } else if filled & MARK_MASK == u64::from(CE) {
+        ring[cell] |= u64::from(CE);
     }
     0
 }
 
 fn start(places: &mut [u64], cells: &mut [u64], ssrc: u32, number: u16, filled: u64) -> u8 {
-    let Some(place) = places.iter().position(|word| word >> 48 != 1) else {
-        return 2;
+    let Some(k) = places.iter().position(|word| !is_held(*word)) else {
+        return Refusal::NoFreePlace.number();
     };
-    let ring = &mut cells[2_048 * place..2_048 * place + 2_048];
+    let ring = ring_of(cells, k);
     ring.fill(0);
-    ring[usize::from(number) % 2_048] = filled;
-    places[place] = word(ssrc, number);
+    ring[usize::from(number) % CELLS_OF_A_PLACE] = filled;
+    places[k] = place_word(ssrc, number);
     0
 }
 
@@ -108,14 +150,14 @@ unsafe extern "C" fn forget(
     cells_len: usize,
     ssrc: u32,
 ) -> u8 {
-    if !shaped(places_len, cells_len) {
-        return 4;
+    if !is_shaped(places_len, cells_len) {
+        return Refusal::BadStore.number();
     }
     let places = slice::from_raw_parts_mut(places, places_len);
-    match holder(places, ssrc) {
-        None => 5,
-        Some(place) => {
-            places[place] = 0;
+    match find(places, ssrc) {
+        None => Refusal::NotHeld.number(),
+        Some(k) => {
+            places[k] = 0;
             0
         }
     }
@@ -127,19 +169,18 @@ unsafe extern "C" fn place(
     places_len: usize,
     _cells: *const u64,
     cells_len: usize,
-    place: usize,
+    k: usize,
     ssrc: *mut u32,
     highest: *mut u16,
 ) -> u8 {
-    if !shaped(places_len, cells_len) {
-        return 4;
+    if !is_shaped(places_len, cells_len) {
+        return Refusal::BadStore.number();
     }
-    match slice::from_raw_parts(places, places_len).get(place) {
-        Some(word) if word >> 48 == 1 => {
-            *ssrc = (word >> 16) as u32;
-            *highest = *word as u16;
+    match slice::from_raw_parts(places, places_len).get(k) {
+        Some(word) if is_held(*word) => {
+            (*ssrc, *highest) = stream(*word);
             0
         }
-        _ => 5,
+        _ => Refusal::NotHeld.number(),
     }
 }

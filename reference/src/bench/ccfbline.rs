@@ -1,6 +1,7 @@
-//! The program on a million records, a record each.
+//! The program on a million records; a step is a record.
 
 use super::{row, Row};
+use crate::arrival_file::HEADER;
 use crate::program;
 use std::fs::File;
 use std::path::Path;
@@ -11,7 +12,7 @@ const RECORDS: u32 = 1_000_000;
 
 /// Four streams in turn, in order, with a copy now and then.
 fn file() -> Vec<u8> {
-    let mut file = b"ARL\0\x01".to_vec();
+    let mut file = HEADER.to_vec();
     for i in 0..RECORDS {
         file.extend((i % 4).to_be_bytes());
         file.extend(((i / 4 - i / 400) as u16).to_be_bytes());

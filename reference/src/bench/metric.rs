@@ -1,9 +1,9 @@
-//! Encode and decode, a metric each.
+//! Encode and decode; a step is a metric.
 
-use super::{row, Row};
+use super::{row, Row, AGES};
 use crate::baseline::metric::BASELINE;
 use crate::calls::metric::MetricCalls;
-use crate::rng::Rng;
+use crate::rng::{Rng, USUAL_SEED};
 use std::hint::black_box;
 
 const METRICS: usize = 16_384;
@@ -15,8 +15,8 @@ pub fn rows() -> Vec<Row> {
 }
 
 fn encode_row() -> Row {
-    let mut rng = Rng::of_case(8888, 0);
-    let mut cell = || (rng.below(4) as u8, !rng.one_in(16), RTS - rng.below(600_000) as u32);
+    let mut rng = Rng::of_case(USUAL_SEED, 0);
+    let mut cell = || (rng.below(4) as u8, !rng.one_in(16), RTS - rng.below(AGES) as u32);
     let cells: Vec<(u8, bool, u32)> = (0..METRICS).map(|_| cell()).collect();
     let calls = (MetricCalls::product(), BASELINE);
     row(
@@ -26,10 +26,10 @@ fn encode_row() -> Row {
         |_| (),
         |calls, _| {
             let mut sum = 0u32;
-            for &(mark, known, time) in &cells {
+            for &(mark, time_known, time) in &cells {
                 let mut metric = 0;
                 // SAFETY: the pointer is to a local of its type.
-                unsafe { (calls.encode)(mark, known, time, RTS, &mut metric) };
+                unsafe { (calls.encode)(mark, time_known, time, RTS, &mut metric) };
                 sum = sum.wrapping_add(u32::from(metric));
             }
             black_box(sum);
@@ -38,7 +38,7 @@ fn encode_row() -> Row {
 }
 
 fn decode_row() -> Row {
-    let mut rng = Rng::of_case(8888, 1);
+    let mut rng = Rng::of_case(USUAL_SEED, 1);
     let metrics: Vec<u16> = (0..METRICS).map(|_| rng.u16()).collect();
     let calls = (MetricCalls::product(), BASELINE);
     row(
@@ -51,8 +51,8 @@ fn decode_row() -> Row {
             for &metric in &metrics {
                 let (mut mark, mut offset) = (0, 0);
                 // SAFETY: both pointers are to locals of their type.
-                let case = unsafe { (calls.decode)(metric, &mut mark, &mut offset) };
-                sum = sum.wrapping_add(u32::from(case) + u32::from(mark) + u32::from(offset));
+                let kind = unsafe { (calls.decode)(metric, &mut mark, &mut offset) };
+                sum = sum.wrapping_add(u32::from(kind) + u32::from(mark) + u32::from(offset));
             }
             black_box(sum);
         },

@@ -1,11 +1,14 @@
-//! Reading and rewriting, a metric each.
+//! Reading and rewriting; a step is a metric.
 
 use super::{row, Row};
 use crate::baseline::packet::BASELINE;
 use crate::calls::packet::PacketCalls;
 use crate::packet::{Block, Packet};
-use crate::rng::Rng;
+use crate::refusal::Refusal;
+use crate::rng::{Rng, USUAL_SEED};
 use std::hint::black_box;
+
+const NO_NUMBER: u8 = Refusal::NoNumber.number();
 
 /// How often a run goes over its packet.
 const TIMES: usize = 100;
@@ -18,7 +21,7 @@ pub fn rows() -> Vec<Row> {
 }
 
 fn shape_rows((blocks, count): (u32, u16)) -> [Row; 3] {
-    let mut rng = Rng::of_case(8888, u64::from(blocks));
+    let mut rng = Rng::of_case(USUAL_SEED, u64::from(blocks));
     let steps = TIMES * blocks as usize * usize::from(count);
     let shape = format!("{blocks} of {count}");
     let blocks = (0..blocks)
@@ -45,21 +48,21 @@ fn shape_rows((blocks, count): (u32, u16)) -> [Row; 3] {
     ]
 }
 
-/// Each block by the cursor, each metric from the part that it hands out.
+/// Each block by the cursor, each metric from the part that the cursor gives.
 fn in_one_pass(calls: PacketCalls, packet: &[u8], _: &mut [u8]) -> u64 {
     let (octets, len) = (packet.as_ptr(), packet.len());
     let mut at = 0;
     let mut sum = 0;
-    // SAFETY: each slice stands with its length; all other pointers are to locals of their type.
+    // SAFETY: each slice is passed with its length; all other pointers are to locals of their type.
     unsafe {
         (calls.first_block)(octets, len, &mut at);
         loop {
-            let (mut ssrc, mut begin, mut count, mut metrics) = (0, 0, 0, 0);
+            let (mut ssrc, mut begin, mut count, mut metrics_at) = (0, 0, 0, 0);
             let (s, b, c) = (&mut ssrc, &mut begin, &mut count);
-            if (calls.next_block)(octets, len, &mut at, s, b, c, &mut metrics) != 0 {
+            if (calls.next_block)(octets, len, &mut at, s, b, c, &mut metrics_at) != 0 {
                 return sum;
             }
-            let part = &packet[metrics..metrics + 2 * usize::from(count)];
+            let part = &packet[metrics_at..metrics_at + 2 * usize::from(count)];
             for j in 0..usize::from(count) {
                 let (mut kind, mut mark, mut offset) = (0, 0, 0);
                 let (k, m, o) = (&mut kind, &mut mark, &mut offset);
@@ -70,7 +73,7 @@ fn in_one_pass(calls: PacketCalls, packet: &[u8], _: &mut [u8]) -> u64 {
     }
 }
 
-/// Each metric by a question of its own.
+/// Each metric by a call of its own.
 fn by_metric(calls: PacketCalls, packet: &[u8], _: &mut [u8]) -> u64 {
     let (octets, len) = (packet.as_ptr(), packet.len());
     let (mut k, mut j) = (0, 0);
@@ -78,13 +81,13 @@ fn by_metric(calls: PacketCalls, packet: &[u8], _: &mut [u8]) -> u64 {
     loop {
         let (mut number, mut kind, mut mark, mut offset) = (0, 0, 0, 0);
         // SAFETY: as above.
-        let refusal = unsafe {
+        let refused = unsafe {
             let kind = &mut kind;
             (calls.metric)(octets, len, k, j, &mut number, kind, &mut mark, &mut offset)
         };
-        match refusal {
+        match refused {
             0 => j += 1,
-            30 => (k, j) = (k + 1, 0),
+            NO_NUMBER => (k, j) = (k + 1, 0),
             _ => return sum,
         }
         sum += u64::from(kind) + u64::from(mark) + u64::from(offset) + u64::from(number);
@@ -94,7 +97,7 @@ fn by_metric(calls: PacketCalls, packet: &[u8], _: &mut [u8]) -> u64 {
 fn rewrite(calls: PacketCalls, packet: &[u8], out: &mut [u8]) -> u64 {
     let mut written = 0;
     let (output, room) = (out.as_mut_ptr(), out.len());
-    // SAFETY: each slice stands with its length.
+    // SAFETY: each slice is passed with its length.
     unsafe { (calls.rewrite)(packet.as_ptr(), packet.len(), output, room, &mut written) };
     written as u64
 }

@@ -1,8 +1,9 @@
-//! Arrivals, one each.
+//! Arrivals; a step is an arrival.
 
 use super::{row, Row};
 use crate::baseline::store::BASELINE;
 use crate::calls::store::{StoreCalls, Words};
+use crate::store::{CELLS_OF_A_PLACE, MOST_PLACES};
 
 const ARRIVALS: usize = 65_536;
 
@@ -14,18 +15,19 @@ pub fn rows() -> Vec<Row> {
         (0..ARRIVALS).map(|i| (0x1234_5678, number(i) as u16)).collect()
     };
     let in_order = one_stream(|i| i);
-    let in_turn: Vec<Arrival> = (0..ARRIVALS).map(|i| (i as u32 % 16, (i / 16) as u16)).collect();
+    let in_turn: Vec<Arrival> =
+        (0..ARRIVALS).map(|i| ((i % MOST_PLACES) as u32, (i / MOST_PLACES) as u16)).collect();
     vec![
         arrivals("arrival in order, 1 stream", 1, 0, &in_order),
         arrivals("the same, a million came before", 1, 1_000_000 / ARRIVALS, &in_order),
-        arrivals("arrival in order, 16 streams in turn", 16, 0, &in_turn),
+        arrivals("arrival in order, 16 streams in turn", MOST_PLACES, 0, &in_turn),
         arrivals("one copy in ten", 1, 0, &one_stream(|i| i - i / 10)),
         arrivals("loss of 64 in every thousand", 1, 0, &one_stream(|i| i + i / 936 * 64)),
-        arrivals("a jump of 2,048 each", 1, 0, &one_stream(|i| 2_048 * i)),
+        arrivals("a jump of 2,048 each", 1, 0, &one_stream(|i| CELLS_OF_A_PLACE * i)),
     ]
 }
 
-/// Takes `arrivals` in `rounds_before` times unmeasured, and once more measured.
+/// Takes the arrivals `rounds_before` times unmeasured, and then once measured.
 fn arrivals(name: &str, places: usize, rounds_before: usize, arrivals: &[Arrival]) -> Row {
     let prepare = |calls| {
         let mut words = Words::fresh(places);
@@ -47,10 +49,10 @@ fn take(calls: StoreCalls, words: &mut Words, arrivals: &[Arrival]) {
     for &(ssrc, number) in arrivals {
         time = time.wrapping_add(65);
         let mark = number as u8 % 4;
-        // SAFETY: each pointer stands with the length of its slice.
-        let refusal = unsafe {
+        // SAFETY: each pointer is passed with the length of its slice.
+        let refused = unsafe {
             (calls.arrive)(places, places_len, cells, cells_len, ssrc, number, mark, true, time)
         };
-        assert_eq!(refusal, 0);
+        assert_eq!(refused, 0);
     }
 }

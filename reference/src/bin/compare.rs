@@ -1,5 +1,5 @@
-//! `compare [--baseline] [SUBJECT...]`: the reference beside libccfb.a (or beside the baseline),
-//! on the subjects named, or on all that this build has.
+//! `compare [--baseline] [SUBJECT...]`: compares the reference with libccfb.a (or the baseline) on
+//! the subjects named, or on all that this build has.
 
 use reference::compare::{run, With, SUBJECTS};
 use std::process::exit;

@@ -2,40 +2,50 @@
 
 use super::{answer, TOUCHED};
 use crate::ffi::c_functions;
-use crate::metric::Reading;
+use crate::metric::Metric;
 
 c_functions! { MetricCalls, "metric":
     encode = ccfb_encode_metric(u8, bool, u32, u32, *mut u16);
     decode = ccfb_decode_metric(u16, *mut u8, *mut u16);
 }
 
+/// The kinds of metric, as the calls number them.
+pub const NOT_RECEIVED: u8 = 0;
+pub const RECEIVED: u8 = 1;
+pub const OVER_RANGE: u8 = 2;
+pub const NO_TIME: u8 = 3;
+
+/// What mark and offset are before a call that writes them only for some kinds.
+pub const MARK_BEFORE: u8 = 0xA5;
+pub const OFFSET_BEFORE: u16 = 0xA5A5;
+
 impl MetricCalls {
-    /// An unknown time goes with `idle`, which must not matter.
+    /// Where the time is unknown, `idle` is passed for it; its value must not matter.
     pub fn encode(&self, mark: u8, time: Option<u32>, idle: u32, rts: u32) -> Result<u16, u8> {
         let before = 0x5A5A;
         let mut metric = before;
         // SAFETY: the pointer is to a local of its type.
-        let code =
+        let refused =
             unsafe { (self.encode)(mark, time.is_some(), time.unwrap_or(idle), rts, &mut metric) };
-        answer(code, metric, before)
+        answer(refused, metric, before)
     }
 
-    pub fn decode(&self, metric: u16) -> Result<Reading, u8> {
-        let (mut mark, mut offset) = (0xA5, 0xA5A5);
+    pub fn decode(&self, metric: u16) -> Result<Metric, u8> {
+        let (mut mark, mut offset) = (MARK_BEFORE, OFFSET_BEFORE);
         // SAFETY: both pointers are to locals of their type.
-        let case = unsafe { (self.decode)(metric, &mut mark, &mut offset) };
-        reading(case, mark, offset)
+        let kind = unsafe { (self.decode)(metric, &mut mark, &mut offset) };
+        metric_of(kind, mark, offset)
     }
 }
 
-/// The case with its values. The out-parameters held 0xA5 and 0xA5A5 before.
-pub fn reading(case: u8, mark: u8, offset: u16) -> Result<Reading, u8> {
-    match (case, mark, offset) {
-        (0, 0xA5, 0xA5A5) => Ok(Reading::NotReceived),
-        (1, _, _) => Ok(Reading::Offset { mark, offset }),
-        (2, _, 0xA5A5) => Ok(Reading::OverRange { mark }),
-        (3, _, 0xA5A5) => Ok(Reading::NoTime { mark }),
-        (0..=3, _, _) => Err(TOUCHED),
-        _ => Err(case),
+/// The metric of that kind with its values, if no other value was written.
+pub fn metric_of(kind: u8, mark: u8, offset: u16) -> Result<Metric, u8> {
+    match (kind, mark, offset) {
+        (NOT_RECEIVED, MARK_BEFORE, OFFSET_BEFORE) => Ok(Metric::NotReceived),
+        (RECEIVED, _, _) => Ok(Metric::Received { mark, offset }),
+        (OVER_RANGE, _, OFFSET_BEFORE) => Ok(Metric::OverRange { mark }),
+        (NO_TIME, _, OFFSET_BEFORE) => Ok(Metric::NoTime { mark }),
+        (NOT_RECEIVED..=NO_TIME, _, _) => Err(TOUCHED),
+        _ => Err(kind),
     }
 }

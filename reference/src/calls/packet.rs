@@ -1,9 +1,9 @@
 //! Reader and rewriter calls.
 
-use super::metric::reading;
+use super::metric::{metric_of, MARK_BEFORE, OFFSET_BEFORE};
 use super::{answer, TOUCHED};
 use crate::ffi::c_functions;
-use crate::metric::Reading;
+use crate::metric::Metric;
 
 c_functions! { PacketCalls, "packet":
     read = ccfb_read(*const u8, usize, *mut u32, *mut u32, *mut usize);
@@ -20,90 +20,91 @@ c_functions! { PacketCalls, "packet":
     rewrite = ccfb_rewrite(*const u8, usize, *mut u8, usize, *mut usize);
 }
 
-// In every call below each pointer stands with the length of its slice, or is to a local of its
-// type, which makes the calls safe.
+// The calls below are safe: each pointer is passed with the length of its slice, or is to a local
+// of its type.
 impl PacketCalls {
     /// Sender, RTS and number of blocks.
     pub fn read(&self, packet: &[u8]) -> Result<(u32, u32, usize), u8> {
         let before = (0x5A5A_5A5A, 0xA5A5_A5A5, usize::MAX - 1);
         let (mut sender, mut rts, mut blocks) = before;
-        let (octets, length) = (packet.as_ptr(), packet.len());
-        let code = unsafe { (self.read)(octets, length, &mut sender, &mut rts, &mut blocks) };
-        answer(code, (sender, rts, blocks), before)
+        let (octets, len) = (packet.as_ptr(), packet.len());
+        let refused = unsafe { (self.read)(octets, len, &mut sender, &mut rts, &mut blocks) };
+        answer(refused, (sender, rts, blocks), before)
     }
 
     /// SSRC, begin and count.
     pub fn block(&self, packet: &[u8], k: usize) -> Result<(u32, u16, u16), u8> {
         let before = (0x5A5A_5A5A, 0xA5A5, 0x5A5A);
         let (mut ssrc, mut begin, mut count) = before;
-        let (octets, length) = (packet.as_ptr(), packet.len());
-        let code = unsafe { (self.block)(octets, length, k, &mut ssrc, &mut begin, &mut count) };
-        answer(code, (ssrc, begin, count), before)
+        let (octets, len) = (packet.as_ptr(), packet.len());
+        let refused = unsafe { (self.block)(octets, len, k, &mut ssrc, &mut begin, &mut count) };
+        answer(refused, (ssrc, begin, count), before)
     }
 
-    /// Where the metrics start and how many octets they take. Refused, the part is empty, at 0.
+    /// The octet where the metrics start, and their length in octets; both 0 if refused.
     pub fn block_metrics(&self, packet: &[u8], k: usize) -> Result<(usize, usize), u8> {
-        let (mut offset, mut size) = (usize::MAX - 1, usize::MAX - 2);
-        let (octets, length) = (packet.as_ptr(), packet.len());
-        let code = unsafe { (self.block_metrics)(octets, length, k, &mut offset, &mut size) };
-        answer(code, (offset, size), (0, 0))
+        let (mut metrics_at, mut metrics_length) = (usize::MAX - 1, usize::MAX - 2);
+        let (octets, len) = (packet.as_ptr(), packet.len());
+        let refused =
+            unsafe { (self.block_metrics)(octets, len, k, &mut metrics_at, &mut metrics_length) };
+        answer(refused, (metrics_at, metrics_length), (0, 0))
     }
 
-    /// The place of the first block, to be handed to `next_block`.
+    /// The octet where the first block starts, for `next_block`.
     pub fn first_block(&self, packet: &[u8]) -> Result<usize, u8> {
         let before = usize::MAX - 1;
         let mut at = before;
-        let code = unsafe { (self.first_block)(packet.as_ptr(), packet.len(), &mut at) };
-        answer(code, at, before)
+        let refused = unsafe { (self.first_block)(packet.as_ptr(), packet.len(), &mut at) };
+        answer(refused, at, before)
     }
 
-    /// SSRC, begin, count and where the metrics start; moves `at` to the next block.
+    /// SSRC, begin, count and the octet where the metrics start; moves `at` to the next block.
     pub fn next_block(&self, packet: &[u8], at: &mut usize) -> Result<(u32, u16, u16, usize), u8> {
         let before = (0x5A5A_5A5A, 0xA5A5, 0x5A5A, usize::MAX - 1);
-        let (mut ssrc, mut begin, mut count, mut metrics) = before;
-        let stood = *at;
-        let (octets, length) = (packet.as_ptr(), packet.len());
-        let code = unsafe {
+        let (mut ssrc, mut begin, mut count, mut metrics_at) = before;
+        let at_before = *at;
+        let (octets, len) = (packet.as_ptr(), packet.len());
+        let refused = unsafe {
             let (ssrc, begin, count) = (&mut ssrc, &mut begin, &mut count);
-            (self.next_block)(octets, length, at, ssrc, begin, count, &mut metrics)
+            (self.next_block)(octets, len, at, ssrc, begin, count, &mut metrics_at)
         };
-        if code != 0 && *at != stood {
+        if refused != 0 && *at != at_before {
             return Err(TOUCHED);
         }
-        answer(code, (ssrc, begin, count, metrics), before)
+        answer(refused, (ssrc, begin, count, metrics_at), before)
     }
 
-    /// The case of metric `j` of a part.
-    pub fn metric_at(&self, part: &[u8], j: usize) -> Result<Reading, u8> {
+    /// Metric `j` of a part that holds the metrics of a block.
+    pub fn metric_at(&self, part: &[u8], j: usize) -> Result<Metric, u8> {
         let before = 0x5A;
         let mut kind = before;
-        let (mut mark, mut offset) = (0xA5, 0xA5A5);
-        let (octets, length) = (part.as_ptr(), part.len());
-        let code =
-            unsafe { (self.metric_at)(octets, length, j, &mut kind, &mut mark, &mut offset) };
-        reading(answer(code, kind, before)?, mark, offset)
+        let (mut mark, mut offset) = (MARK_BEFORE, OFFSET_BEFORE);
+        let (octets, len) = (part.as_ptr(), part.len());
+        let refused =
+            unsafe { (self.metric_at)(octets, len, j, &mut kind, &mut mark, &mut offset) };
+        metric_of(answer(refused, kind, before)?, mark, offset)
     }
 
-    /// Number and case.
-    pub fn metric(&self, packet: &[u8], k: usize, j: usize) -> Result<(u16, Reading), u8> {
+    /// Metric `j` of block `k`, with its number.
+    pub fn metric(&self, packet: &[u8], k: usize, j: usize) -> Result<(u16, Metric), u8> {
         let before = (0x5A5A, 0x5A);
         let (mut number, mut kind) = before;
-        let (mut mark, mut offset) = (0xA5, 0xA5A5);
-        let (octets, length) = (packet.as_ptr(), packet.len());
-        let code = unsafe {
-            (self.metric)(octets, length, k, j, &mut number, &mut kind, &mut mark, &mut offset)
+        let (mut mark, mut offset) = (MARK_BEFORE, OFFSET_BEFORE);
+        let (octets, len) = (packet.as_ptr(), packet.len());
+        let refused = unsafe {
+            (self.metric)(octets, len, k, j, &mut number, &mut kind, &mut mark, &mut offset)
         };
-        let (number, kind) = answer(code, (number, kind), before)?;
-        Ok((number, reading(kind, mark, offset)?))
+        let (number, kind) = answer(refused, (number, kind), before)?;
+        Ok((number, metric_of(kind, mark, offset)?))
     }
 
-    /// Writes to `out`; gives back how many octets.
+    /// Writes to `out`; returns how many octets.
     pub fn rewrite(&self, packet: &[u8], out: &mut [u8]) -> Result<usize, u8> {
         let before = usize::MAX - 1;
         let mut written = before;
-        let (octets, length) = (packet.as_ptr(), packet.len());
+        let (octets, len) = (packet.as_ptr(), packet.len());
         let (output, room) = (out.as_mut_ptr(), out.len());
-        let code = unsafe { (self.rewrite)(octets, length, output, room, &mut written) };
-        answer(code, written, before)
+        let refused = unsafe { (self.rewrite)(octets, len, output, room, &mut written) };
+        answer(refused, written, before)
     }
 }

@@ -2,7 +2,8 @@
 
 use super::answer;
 use crate::ffi::c_functions;
-use crate::metric::Received;
+use crate::metric::Arrived;
+use crate::store::CELLS_OF_A_PLACE;
 
 c_functions! { StoreCalls, "store":
     arrive = ccfb_arrive(*mut u64, usize, *mut u64, usize, u32, u16, u8, bool, u32);
@@ -10,7 +11,7 @@ c_functions! { StoreCalls, "store":
     place = ccfb_place(*const u64, usize, *const u64, usize, usize, *mut u32, *mut u16);
 }
 
-/// The words of a lent store.
+/// The two arrays of a store.
 #[derive(Clone, Debug, PartialEq, Eq)]
 pub struct Words {
     pub places: Vec<u64>,
@@ -19,7 +20,7 @@ pub struct Words {
 
 impl Words {
     pub fn fresh(places: usize) -> Words {
-        Words { places: vec![0; places], cells: vec![0; 2_048 * places] }
+        Words { places: vec![0; places], cells: vec![0; CELLS_OF_A_PLACE * places] }
     }
 }
 
@@ -29,13 +30,13 @@ impl StoreCalls {
         words: &mut Words,
         ssrc: u32,
         number: u16,
-        received: Received,
+        arrived: Arrived,
         idle: u32,
     ) -> Result<(), u8> {
         let Words { places, cells } = words;
-        let Received { mark, time } = received;
-        // SAFETY: each pointer stands with the length of its slice.
-        let code = unsafe {
+        let Arrived { mark, time } = arrived;
+        // SAFETY: each pointer is passed with the length of its slice.
+        let refused = unsafe {
             (self.arrive)(
                 places.as_mut_ptr(),
                 places.len(),
@@ -48,34 +49,34 @@ impl StoreCalls {
                 time.unwrap_or(idle),
             )
         };
-        answer(code, (), ())
+        answer(refused, (), ())
     }
 
     pub fn forget(&self, words: &mut Words, ssrc: u32) -> Result<(), u8> {
         let Words { places, cells } = words;
         // SAFETY: as above.
-        let code = unsafe {
+        let refused = unsafe {
             (self.forget)(places.as_mut_ptr(), places.len(), cells.as_ptr(), cells.len(), ssrc)
         };
-        answer(code, (), ())
+        answer(refused, (), ())
     }
 
-    pub fn place(&self, words: &Words, place: usize) -> Result<(u32, u16), u8> {
+    pub fn place(&self, words: &Words, k: usize) -> Result<(u32, u16), u8> {
         let Words { places, cells } = words;
         let before = (0xDEAD_BEEF, 0xBEEF);
         let (mut ssrc, mut highest) = before;
         // SAFETY: as above, and the last two pointers are to locals of their type.
-        let code = unsafe {
+        let refused = unsafe {
             (self.place)(
                 places.as_ptr(),
                 places.len(),
                 cells.as_ptr(),
                 cells.len(),
-                place,
+                k,
                 &mut ssrc,
                 &mut highest,
             )
         };
-        answer(code, (ssrc, highest), before)
+        answer(refused, (ssrc, highest), before)
     }
 }

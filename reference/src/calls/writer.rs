@@ -4,7 +4,7 @@ use super::answer;
 use super::store::Words;
 use crate::cutting::Request;
 use crate::ffi::c_functions;
-use crate::writer::Settings;
+use crate::writer::Report;
 
 c_functions! { WriterCalls, "writer":
     write = ccfb_write(
@@ -14,26 +14,26 @@ c_functions! { WriterCalls, "writer":
 }
 
 impl WriterCalls {
-    /// Writes to `out`; gives back how many packets and octets.
+    /// Writes to `out`; returns how many packets and octets.
     pub fn write(
         &self,
         words: &Words,
-        settings: Settings,
+        report: Report,
         requests: &[Request],
         out: &mut [u8],
     ) -> Result<(usize, usize), u8> {
         let before = (usize::MAX - 1, usize::MAX - 2);
         let (mut packets, mut octets) = before;
-        // SAFETY: each pointer stands with the length of its slice; the last two are to locals.
-        let code = unsafe {
+        // SAFETY: each pointer is passed with the length of its slice; the last two are to locals.
+        let refused = unsafe {
             (self.write)(
                 words.places.as_ptr(),
                 words.places.len(),
                 words.cells.as_ptr(),
                 words.cells.len(),
-                settings.own,
-                settings.rts,
-                settings.limit,
+                report.sender,
+                report.rts,
+                report.limit,
                 requests.as_ptr(),
                 requests.len(),
                 out.as_mut_ptr(),
@@ -42,6 +42,6 @@ impl WriterCalls {
                 &mut octets,
             )
         };
-        answer(code, (packets, octets), before)
+        answer(refused, (packets, octets), before)
     }
 }

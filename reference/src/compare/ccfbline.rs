@@ -1,18 +1,24 @@
 //! The program `ccfbline`: what it prints, octet by octet, for files of every kind.
 
 use super::{Hex, Mismatch, Tally};
-use crate::arrival_file::RECORD;
+use crate::arrival_file::{HEADER, RECORD_OCTETS};
 use crate::ccfbline;
 use crate::program;
 use crate::rng::{rounds, Rng};
 use std::path::Path;
 
-const HEADER: [u8; 5] = *b"ARL\0\x01";
+/// Where in a record its fields are.
+const MARK_AT: usize = 6;
+const FLAG_AT: usize = 7;
+const TIME_AT: usize = 8;
 
-/// Case P.
+/// Case P: two arrivals of a stream, with a lost number between them.
 const CASE_P: [u8; 29] = *b"ARL\0\x01\
     \x00\x00\x0a\x01\xff\xfe\x02\x01\x00\x04\x80\x00\
     \x00\x00\x0a\x01\x00\x00\x03\x01\x00\x05\x00\x00";
+
+/// How many sequence numbers there are.
+const NUMBERS: u64 = 65_536;
 
 pub fn run(program: &Path, tally: &mut Tally) -> Result<(), Mismatch> {
     let case_p = "8bcd0006000000f100000a01fffd00040000c2000000e00000050000\n".to_string();
@@ -71,10 +77,10 @@ fn random_file(rng: &mut Rng, records: u64) -> Vec<u8> {
             0 => 2_048,
             1 => 32_767,
             2 => 32_768,
-            3 => 65_536 - rng.below(2_100),
-            4 => 65_536 - 2_048,
-            5..=7 => 65_536 - rng.below(4),
-            8 => rng.below(65_536),
+            3 => NUMBERS - rng.below(2_100),
+            4 => NUMBERS - 2_048,
+            5..=7 => NUMBERS - rng.below(4),
+            8 => rng.below(NUMBERS),
             _ => 1,
         };
         let next = number.wrapping_add(step as u16);
@@ -91,22 +97,24 @@ fn random_file(rng: &mut Rng, records: u64) -> Vec<u8> {
 }
 
 fn put_fault(rng: &mut Rng, file: &mut Vec<u8>) {
-    let records = file.len().saturating_sub(HEADER.len()) / RECORD;
-    let record = HEADER.len() + RECORD * rng.below(records.max(1) as u64) as usize;
+    let records = file.len().saturating_sub(HEADER.len()) / RECORD_OCTETS;
+    let record = HEADER.len() + RECORD_OCTETS * rng.below(records.max(1) as u64) as usize;
     match rng.below(8) {
         0 => file.truncate(rng.below(file.len() as u64 + 1) as usize),
         1 => file.extend(std::iter::repeat_n(rng.u16() as u8, 1 + rng.below(11) as usize)),
-        2 if file.len() >= HEADER.len() => file[rng.below(5) as usize] ^= 1 << rng.below(8),
-        _ if record + RECORD > file.len() => {}
-        2 | 3 => file[record + 6] = 4 + rng.below(252) as u8,
-        4 => file[record + 7] = 2 + rng.below(254) as u8,
-        5 => file[record + 7] = 0,
-        6 => file[record + 8 + rng.below(4) as usize] ^= 1 << rng.below(8),
-        _ => file[record + 6 + rng.below(2) as usize] ^= 1 << rng.below(8),
+        2 if file.len() >= HEADER.len() => {
+            file[rng.below(HEADER.len() as u64) as usize] ^= 1 << rng.below(8);
+        }
+        _ if record + RECORD_OCTETS > file.len() => {}
+        2 | 3 => file[record + MARK_AT] = 4 + rng.below(252) as u8,
+        4 => file[record + FLAG_AT] = 2 + rng.below(254) as u8,
+        5 => file[record + FLAG_AT] = 0,
+        6 => file[record + TIME_AT + rng.below(4) as usize] ^= 1 << rng.below(8),
+        _ => file[record + MARK_AT + rng.below(2) as usize] ^= 1 << rng.below(8),
     }
 }
 
-/// Files longer than any buffer, one of a million records, whole and with a fault at the end.
+/// Files longer than any buffer, up to a million records, whole and with a fault at the end.
 fn long_files(program: &Path, tally: &mut Tally) -> Result<(), Mismatch> {
     let mut rng = Rng::of_case(tally.seed, 0);
     for records in [341, 342, 5_461, 5_462, 20_000, 1_000_000] {
@@ -114,8 +122,8 @@ fn long_files(program: &Path, tally: &mut Tally) -> Result<(), Mismatch> {
         compare(program, tally, &file)?;
         file.pop();
         compare(program, tally, &file)?;
-        let mark = file.len() + 7 - RECORD;
-        file[mark] = 4;
+        let last_record = file.len() + 1 - RECORD_OCTETS;
+        file[last_record + MARK_AT] = 4;
         file.push(0);
         compare(program, tally, &file)?;
     }

@@ -1,14 +1,16 @@
-//! Lent stores of random content.
+//! Stores of random content.
 
 use crate::calls::store::Words;
+use crate::lent::{place_word, HELD};
 use crate::rng::Rng;
+use crate::store::CELLS_OF_A_PLACE;
 
 /// Any content: held places, some with one SSRC in common, words that are nearly held, and cells
 /// of any bits.
 pub fn random_words(rng: &mut Rng, places: usize) -> Words {
     let sparse = rng.one_in(4);
     let places = (0..places).map(|_| random_place(rng)).collect::<Vec<u64>>();
-    let cells = (0..2_048 * places.len())
+    let cells = (0..CELLS_OF_A_PLACE * places.len())
         .map(|_| if sparse && !rng.one_in(8) { 0 } else { rng.u64() })
         .collect();
     Words { places, cells }
@@ -24,14 +26,15 @@ fn random_place(rng: &mut Rng) -> u64 {
         0 => rng.u16(),
         _ => rng.pick(&[0, 1, 2_046, 2_047, 2_048, 32_768, 65_535]),
     };
-    let fields = u64::from(ssrc) << 16 | u64::from(highest);
+    let held = place_word(ssrc, highest);
+    let fields = held - HELD;
     match rng.below(16) {
         0 => rng.u64(),
         1 => fields,
-        2 => fields + (2 << 48),
-        3 => fields + (0x8001 << 48),
-        4 => fields + (3 << 48),
+        2 => fields + 2 * HELD,
+        3 => fields + 0x8001 * HELD,
+        4 => fields + 3 * HELD,
         5 => 0,
-        _ => fields + (1 << 48),
+        _ => held,
     }
 }

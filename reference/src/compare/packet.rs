@@ -1,12 +1,22 @@
-//! Reader and rewriter: packets of every shape, whole, damaged and cut, and any octets.
+//! Reader and rewriter: packets of every shape, whole, damaged and cut, and random octets.
 
 use super::packets::{packet_of, put_fault, set_length, small_counts};
 use super::{numbered, output, unwritten, Hex, Mismatch, Tally};
 use crate::calls::packet::PacketCalls;
 use crate::metric::decode;
-use crate::packet::{parse, rewrite, walk, Packet};
+use crate::packet::{
+    parse, rewrite, walk, Packet, BLOCK_HEADER_OCTETS, EMPTY_PACKET_OCTETS, FIRST_OCTETS,
+    HEADER_OCTETS, MOST_REPORTS,
+};
 use crate::refusal::Refusal;
 use crate::rng::{rounds, Rng};
+use std::ops::Range;
+
+/// Where num_reports of the first block is.
+const COUNT: Range<usize> = 14..16;
+
+/// The octets of the longest packet that a length field can give.
+const LONGEST: usize = 4 * 65_536;
 
 pub fn run(calls: &PacketCalls, tally: &mut Tally) -> Result<(), Mismatch> {
     known_traps(calls, tally)?;
@@ -74,7 +84,7 @@ fn questions(
 ) -> Result<(), Mismatch> {
     let blocks = packet.blocks.len();
     let metrics: usize = packet.blocks.iter().map(|block| block.metrics.len()).sum();
-    // A question walks all blocks: of large packets, one block or metric in so many is asked for.
+    // A question walks all blocks, so only some blocks and metrics of large packets are asked for.
     let one_block_in = 1 + blocks as u64 / 500;
     let one_metric_in = 1 + (blocks * metrics) as u64 / 100_000;
     for k in (0..blocks + 2).chain([usize::MAX]) {
@@ -82,7 +92,7 @@ fn questions(
             continue;
         }
         let block = packet.block(k).map(|b| (b.ssrc, b.begin, b.metrics.len() as u16));
-        let part = numbered(packet.metrics_part(k));
+        let part = numbered(packet.block_metrics(k));
         tally.same(&("block", k, Hex(octets)), calls.block(octets, k), numbered(block))?;
         tally.same(&("part", k, Hex(octets)), calls.block_metrics(octets, k), part)?;
         let count = packet.block(k).map_or(0, |block| block.metrics.len());
@@ -108,20 +118,20 @@ fn one_pass(calls: &PacketCalls, tally: &mut Tally, octets: &[u8]) -> Result<(),
     };
     tally.same(&("first block", Hex(octets)), first.map(|_| ()), Ok(()))?;
     let mut at = first.unwrap_or(0);
-    let mut metrics = 16;
+    let mut metrics_at = HEADER_OCTETS + BLOCK_HEADER_OCTETS;
     for (k, block) in packet.blocks.iter().enumerate() {
-        let reference = (block.ssrc, block.begin, block.metrics.len() as u16, metrics);
+        let reference = (block.ssrc, block.begin, block.metrics.len() as u16, metrics_at);
         let ours = calls.next_block(octets, &mut at);
         tally.same(&("next block", k, Hex(octets)), ours, Ok(reference))?;
-        let part = &octets[metrics..metrics + 2 * block.metrics.len()];
+        let part = &octets[metrics_at..metrics_at + 2 * block.metrics.len()];
         for j in (0..block.metrics.len() + 1).chain([usize::MAX]) {
             let metric = block.metrics.get(j).map(|metric| decode(*metric));
-            let reference = metric.ok_or(Refusal::NoSuchNumber);
+            let reference = metric.ok_or(Refusal::NoNumber);
             tally.same(&("metric", j, Hex(part)), calls.metric_at(part, j), numbered(reference))?;
         }
-        metrics += (part.len()).next_multiple_of(4) + 8;
+        metrics_at += part.len().next_multiple_of(4) + BLOCK_HEADER_OCTETS;
     }
-    let end = fault.unwrap_or(Refusal::NoSuchBlock).number();
+    let end = fault.unwrap_or(Refusal::NoBlock).number();
     tally.same(&("last block", Hex(octets)), calls.next_block(octets, &mut at), Err(end))
 }
 
@@ -145,14 +155,14 @@ fn rewriting(
     Ok(())
 }
 
-/// Small inputs of which a field goes through every value, and those at which other
+/// Small inputs of which a field goes through every value, and inputs on which other
 /// implementations crash.
 fn known_traps(calls: &PacketCalls, tally: &mut Tally) -> Result<(), Mismatch> {
     let mut rng = Rng::of_case(tally.seed, 0);
     let none = [0x8B, 0xCD, 0, 2, 0, 0, 0, 1, 0, 0, 0, 2];
     let mut four = [0xFF; 28];
     four[..8].copy_from_slice(&[0x8B, 0xCD, 0, 6, 0, 0, 0, 1]);
-    for length in 0..=12 {
+    for length in 0..=none.len() {
         compare(calls, tally, &mut rng, &none[..length])?;
     }
     for value in 0..=u16::MAX {
@@ -161,21 +171,22 @@ fn known_traps(calls: &PacketCalls, tally: &mut Tally) -> Result<(), Mismatch> {
             octets[at..at + 2].copy_from_slice(&value.to_be_bytes());
             compare(calls, tally, &mut rng, &octets)?;
         }
-        four[14..16].copy_from_slice(&value.to_be_bytes());
+        four[COUNT].copy_from_slice(&value.to_be_bytes());
         compare(calls, tally, &mut rng, &four)?;
     }
     Ok(())
 }
 
-/// Packets up to the most that a length field can say, and some longer ones.
+/// Packets up to the longest that a length field can give, and some longer ones.
 fn large(calls: &PacketCalls, tally: &mut Tally) -> Result<(), Mismatch> {
     let mut rng = Rng::of_case(tally.seed, 1);
+    let most = usize::from(MOST_REPORTS);
     let shapes: [Vec<usize>; 9] = [
-        vec![16_384],
-        vec![16_383, 1],
-        vec![16_384, 16_370],
-        vec![16_384, 16_384, 3],
-        [vec![16_384; 7], vec![16_346]].concat(),
+        vec![most],
+        vec![most - 1, 1],
+        vec![most, 16_370],
+        vec![most, most, 3],
+        [vec![most; 7], vec![16_346]].concat(),
         vec![590; 40],
         vec![1; 5_000],
         vec![0; 8_190],
@@ -187,12 +198,12 @@ fn large(calls: &PacketCalls, tally: &mut Tally) -> Result<(), Mismatch> {
         let last = octets.len() - 5;
         octets[last] ^= 1;
         compare(calls, tally, &mut rng, &octets)?;
-        octets[14..16].copy_from_slice(&16_385u16.to_be_bytes());
+        octets[COUNT].copy_from_slice(&(MOST_REPORTS + 1).to_be_bytes());
         compare(calls, tally, &mut rng, &octets)?;
     }
-    for length in [262_140, 262_144, 262_145, 262_148, 262_156] {
+    for length in [LONGEST - 4, LONGEST, LONGEST + 1, LONGEST + 4, LONGEST + 12] {
         let mut octets = vec![0; length];
-        octets[..2].copy_from_slice(&[0x8B, 0xCD]);
+        octets[..2].copy_from_slice(&FIRST_OCTETS);
         set_length(&mut octets);
         compare(calls, tally, &mut rng, &octets)?;
     }
@@ -228,7 +239,7 @@ fn cut_at_each_octet(
     for kept in 0..octets.len() {
         let mut cut = octets[..kept].to_vec();
         compare(calls, tally, rng, &cut)?;
-        if kept >= 12 {
+        if kept >= EMPTY_PACKET_OCTETS {
             set_length(&mut cut);
             compare(calls, tally, rng, &cut)?;
         }
@@ -236,15 +247,15 @@ fn cut_at_each_octet(
     Ok(())
 }
 
-/// Random octets behind a good header; num_reports is small often enough to go on.
+/// Random octets after a good header; num_reports is often small, so that the walk goes on.
 fn random_octets(calls: &PacketCalls, tally: &mut Tally, rng: &mut Rng) -> Result<(), Mismatch> {
-    let words = 3 + rng.below(60) as usize;
+    let words = EMPTY_PACKET_OCTETS / 4 + rng.below(60) as usize;
     let mut octets: Vec<u8> = (0..4 * words)
         .map(|_| if rng.one_in(3) { rng.below(256) as u8 } else { rng.below(2) as u8 })
         .collect();
-    octets[..2].copy_from_slice(&[0x8B, 0xCD]);
+    octets[..2].copy_from_slice(&FIRST_OCTETS);
     set_length(&mut octets);
-    for at in (14..octets.len()).step_by(8) {
+    for at in (COUNT.start..octets.len()).step_by(8) {
         octets[at] = if rng.one_in(8) { rng.below(256) as u8 } else { 0 };
     }
     compare(calls, tally, rng, &octets)

@@ -1,6 +1,9 @@
 //! Random packets, and faults to put into them.
 
-use crate::packet::{Block, Packet};
+use crate::packet::{
+    Block, Packet, BLOCK_HEADER_OCTETS, EMPTY_PACKET_OCTETS, HEADER_OCTETS, MOST_REPORTS,
+    RTS_OCTETS,
+};
 use crate::rng::Rng;
 
 /// A metric of any kind, often one at an edge.
@@ -37,7 +40,7 @@ pub fn small_counts(rng: &mut Rng) -> Vec<usize> {
         .collect()
 }
 
-/// Writes the length field that the octets call for.
+/// Sets the length field to the length of the octets.
 pub fn set_length(octets: &mut [u8]) {
     let length = (octets.len() / 4 - 1) as u16;
     octets[2..4].copy_from_slice(&length.to_be_bytes());
@@ -45,12 +48,12 @@ pub fn set_length(octets: &mut [u8]) {
 
 /// Where the block headers start, by the counts.
 fn starts(counts: &[usize]) -> Vec<usize> {
-    let mut at = 8;
+    let mut at = HEADER_OCTETS;
     counts
         .iter()
         .map(|count| {
             let start = at;
-            at += 8 + 2 * (count + count % 2);
+            at += BLOCK_HEADER_OCTETS + 2 * (count + count % 2);
             start
         })
         .collect()
@@ -73,12 +76,12 @@ pub fn put_fault(rng: &mut Rng, octets: &mut Vec<u8>, counts: &[usize]) {
     }
 }
 
-/// Takes a few words out before RTS, with the length field kept true.
+/// Takes out a few words before RTS, and sets the length field.
 fn cut_words(rng: &mut Rng, octets: &mut Vec<u8>) {
     let words = 1 + rng.below(4) as usize;
-    if octets.len() >= 12 + 4 * words {
-        let rts = octets.len() - 4;
-        octets.drain(rts - 4 * words..rts);
+    if octets.len() >= EMPTY_PACKET_OCTETS + 4 * words {
+        let rts_at = octets.len() - RTS_OCTETS;
+        octets.drain(rts_at - 4 * words..rts_at);
         set_length(octets);
     }
 }
@@ -92,20 +95,20 @@ fn damage_count(rng: &mut Rng, octets: &mut [u8], starts: &[usize], block: usize
     }
     let count = u16::from_be_bytes([octets[field], octets[field + 1]]);
     let damaged = match rng.below(4) {
-        0 => rng.pick(&[16_384, 16_385, 32_763, 32_766, 32_768, 65_534, 65_535]),
+        0 => rng.pick(&[MOST_REPORTS, MOST_REPORTS + 1, 32_763, 32_766, 32_768, 65_534, 65_535]),
         1 => rng.u16(),
         _ => count.wrapping_add(rng.pick(&[1, 2, 3, 65_535])),
     };
     octets[field..field + 2].copy_from_slice(&damaged.to_be_bytes());
 }
 
-/// Sets a bit of the filler of the first odd block from `block` on.
+/// Flips a bit of the filler of the first block, starting at `block`, with an odd count.
 fn damage_filler(rng: &mut Rng, octets: &mut [u8], counts: &[usize], block: usize) {
     let odd = (block..counts.len()).find(|block| counts[*block] % 2 == 1);
     let Some(block) = odd else {
         return;
     };
-    let filler = starts(counts)[block] + 8 + 2 * counts[block];
+    let filler = starts(counts)[block] + BLOCK_HEADER_OCTETS + 2 * counts[block];
     if filler + 2 <= octets.len() {
         octets[filler + rng.below(2) as usize] ^= 1 << rng.below(8);
     }

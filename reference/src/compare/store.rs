@@ -1,17 +1,18 @@
-//! Store: the cases at the edges, random runs from a fresh store, lent contents, wrong shapes.
+//! Store: the cases at the edges, random runs from a fresh store, any content, wrong shapes.
 
 use super::lent_words::random_words;
 use super::pair::{Call, Pair};
 use super::{Mismatch, Tally};
 use crate::calls::store::{StoreCalls, Words};
-use crate::metric::Received;
+use crate::metric::Arrived;
+use crate::refusal::Refusal;
 use crate::rng::{rounds, Rng};
-use crate::store::wrapped;
+use crate::store::{wrapped, CELLS_OF_A_PLACE, MOST_PLACES};
 
 pub fn run(calls: &StoreCalls, tally: &mut Tally) -> Result<(), Mismatch> {
     edges(calls, tally)?;
     wrong_shapes(calls, tally)?;
-    for places in [1, 2, 4, 16] {
+    for places in [1, 2, 4, MOST_PLACES] {
         for _ in 0..rounds(20) {
             tally.case += 1;
             random_run(calls, tally, places, 5_000)?;
@@ -25,7 +26,7 @@ pub fn run(calls: &StoreCalls, tally: &mut Tally) -> Result<(), Mismatch> {
 }
 
 fn arrival(ssrc: u32, number: u16, mark: u8, time: Option<u32>) -> Call {
-    Call::Arrive { ssrc, number, received: Received { mark, time }, idle: 0 }
+    Call::Arrive { ssrc, number, arrived: Arrived { mark, time }, idle: 0 }
 }
 
 /// Numbers around H = 0, and copies, one store for each case.
@@ -47,14 +48,15 @@ fn edges(calls: &StoreCalls, tally: &mut Tally) -> Result<(), Mismatch> {
     Ok(())
 }
 
-/// Every wrong shape gets 4 from every call, before any other refusal, and no word changes.
+/// Every call refuses every wrong shape with 4, before any other refusal, and changes no word.
 fn wrong_shapes(calls: &StoreCalls, tally: &mut Tally) -> Result<(), Mismatch> {
     let mut rng = Rng::of_case(tally.seed, 0);
     for places in 0..=20usize {
-        let right = 2_048 * places;
-        let lengths = [0, 1, 2_048, right, right + 1, right + 2_048, right.saturating_sub(1)];
-        for cells in lengths.into_iter().chain([right.saturating_sub(2_048), places]) {
-            if cells == right && (1..=16).contains(&places) {
+        let ring = CELLS_OF_A_PLACE;
+        let right = ring * places;
+        let lengths = [0, 1, ring, right, right + 1, right + ring, right.saturating_sub(1)];
+        for cells in lengths.into_iter().chain([right.saturating_sub(ring), places]) {
+            if cells == right && (1..=MOST_PLACES).contains(&places) {
                 continue;
             }
             let mut words = random_words(&mut rng, places);
@@ -67,14 +69,15 @@ fn wrong_shapes(calls: &StoreCalls, tally: &mut Tally) -> Result<(), Mismatch> {
 
 fn wrong_shape(calls: &StoreCalls, tally: &mut Tally, words: Words) -> Result<(), Mismatch> {
     let shape = (words.places.len(), words.cells.len());
+    let bad_store = Refusal::BadStore.number();
     let mut ours = words.clone();
     for mark in [0, 4] {
-        let answer = calls.arrive(&mut ours, 1, 1, Received { mark, time: None }, 0);
-        tally.same(&("arrive", shape, mark), answer, Err(4))?;
+        let answer = calls.arrive(&mut ours, 1, 1, Arrived { mark, time: None }, 0);
+        tally.same(&("arrive", shape, mark), answer, Err(bad_store))?;
     }
-    tally.same(&("forget", shape), calls.forget(&mut ours, 1), Err(4))?;
-    for place in [0, shape.0, usize::MAX] {
-        tally.same(&("place", shape, place), calls.place(&ours, place), Err(4))?;
+    tally.same(&("forget", shape), calls.forget(&mut ours, 1), Err(bad_store))?;
+    for k in [0, shape.0, usize::MAX] {
+        tally.same(&("place", shape, k), calls.place(&ours, k), Err(bad_store))?;
     }
     tally.same(&("words unchanged", shape), ours == words, true)
 }
@@ -106,7 +109,7 @@ fn next_call(rng: &mut Rng, pair: &Pair, streams: &[u32]) -> Call {
     };
     let mark = if rng.one_in(50) { 4 + rng.below(252) } else { rng.below(4) } as u8;
     let time = if rng.one_in(8) { None } else { Some(rng.u32()) };
-    Call::Arrive { ssrc, number, received: Received { mark, time }, idle: rng.u32() }
+    Call::Arrive { ssrc, number, arrived: Arrived { mark, time }, idle: rng.u32() }
 }
 
 fn random_run(
@@ -130,10 +133,10 @@ fn random_run(
     Ok(())
 }
 
-/// A few calls on a lent store of random content.
+/// A few calls on a store of random content.
 fn lent_run(calls: &StoreCalls, tally: &mut Tally) -> Result<(), Mismatch> {
     let mut rng = Rng::of_case(tally.seed, tally.case);
-    let places = 1 + rng.below(16) as usize;
+    let places = 1 + rng.below(MOST_PLACES as u64) as usize;
     let mut pair = Pair::lent(calls, random_words(&mut rng, places));
     let mut streams: Vec<u32> =
         pair.model.places().iter().flatten().map(|held| held.ssrc).collect();

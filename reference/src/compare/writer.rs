@@ -1,4 +1,4 @@
-//! Writer: answer and every octet, the output read back as a cutting, and the fewest packets.
+//! Writer: the answer and every octet, the output read back as a cutting, the fewest packets.
 
 use super::lent_words::random_words;
 use super::requests::{good_requests, put_fault, Size};
@@ -6,11 +6,18 @@ use super::{numbered, output, unwritten, Hex, Mismatch, Tally};
 use crate::calls::store::Words;
 use crate::calls::writer::WriterCalls;
 use crate::cutting::{broken_rule, fewest_by_table, fewest_of_all, Block, Packet, Request};
-use crate::lent;
+use crate::lent::{self, place_word};
 use crate::packet::parse;
+use crate::refusal::Refusal;
 use crate::rng::{rounds, Rng};
-use crate::store::Store;
-use crate::writer::{write, Settings};
+use crate::store::{Store, CELLS_OF_A_PLACE, MOST_PLACES};
+use crate::writer::{write, Report, LEAST_LIMIT, MOST_LIMIT, MOST_REQUESTS};
+
+/// How many limits there are.
+const LIMITS: u64 = (MOST_LIMIT - LEAST_LIMIT + 1) as u64;
+
+/// Room for a packet of 24 octets for each number and each request.
+const LONGEST_OUTPUT: usize = 24 * (MOST_REQUESTS * CELLS_OF_A_PLACE + MOST_REQUESTS);
 
 pub fn run(calls: &WriterCalls, tally: &mut Tally) -> Result<(), Mismatch> {
     edges(calls, tally)?;
@@ -19,10 +26,10 @@ pub fn run(calls: &WriterCalls, tally: &mut Tally) -> Result<(), Mismatch> {
     for _ in 0..rounds(100) {
         tally.case += 1;
         let mut rng = Rng::of_case(tally.seed, tally.case);
-        let places = 1 + rng.below(16) as usize;
+        let places = 1 + rng.below(MOST_PLACES as u64) as usize;
         let mut lent = match rng.below(3) {
             0 => {
-                let highest: Vec<u16> = (0..16).map(|_| rng.u16()).collect();
+                let highest: Vec<u16> = (0..MOST_PLACES).map(|_| rng.u16()).collect();
                 Lent::of_highest(calls, &mut rng, &highest)
             }
             _ => Lent::new(calls, random_words(&mut rng, places)),
@@ -32,16 +39,11 @@ pub fn run(calls: &WriterCalls, tally: &mut Tally) -> Result<(), Mismatch> {
     Ok(())
 }
 
-/// A lent store, and how it reads.
+/// The words of a store, and how it reads.
 struct Lent<'a> {
     calls: &'a WriterCalls,
     words: Words,
     store: Store,
-}
-
-/// A place word.
-fn held(ssrc: u32, highest: u16) -> u64 {
-    1 << 48 | u64::from(ssrc) << 16 | u64::from(highest)
 }
 
 impl<'a> Lent<'a> {
@@ -54,33 +56,33 @@ impl<'a> Lent<'a> {
     fn of_highest(calls: &'a WriterCalls, rng: &mut Rng, highest: &[u16]) -> Lent<'a> {
         let mut words = random_words(rng, highest.len());
         let places = highest.iter().zip(1..);
-        words.places = places.map(|(highest, ssrc)| held(ssrc, *highest)).collect();
+        words.places = places.map(|(highest, ssrc)| place_word(ssrc, *highest)).collect();
         Lent::new(calls, words)
     }
 
-    /// Compares answer and output at several output lengths about the need.
+    /// Compares answer and output at output lengths that differ by so much from what is needed.
     fn compare(
         &self,
         tally: &mut Tally,
-        settings: Settings,
+        report: Report,
         requests: &[Request],
         about: &[isize],
     ) -> Result<(), Mismatch> {
-        let whole = write(&self.store, settings, requests, usize::MAX);
+        let whole = write(&self.store, report, requests, usize::MAX);
         let need = whole.as_ref().map_or(40, |packets| packets.iter().map(Vec::len).sum());
         for more in about {
             let room = need.saturating_add_signed(*more);
             let reference = match (&whole, room < need) {
-                (Ok(_), true) => Err(10),
+                (Ok(_), true) => Err(Refusal::OutputTooShort.number()),
                 _ => numbered(whole.clone()),
             };
             let mut out = unwritten(room);
-            let ours = self.calls.write(&self.words, settings, requests, &mut out);
+            let ours = self.calls.write(&self.words, report, requests, &mut out);
             let packets = reference.as_ref().map_or(0, Vec::len);
             let reference = reference.map(|packets| packets.concat());
             let expected = output(room, &reference);
             let answer = reference.map(|octets| (packets, octets.len()));
-            let input = (settings, requests, "room", room, "places", &self.words.places);
+            let input = (report, requests, "room", room, "places", &self.words.places);
             tally.same(&("write", input), ours, answer)?;
             tally.same(&("written", input), Hex(&out), Hex(&expected))?;
         }
@@ -88,22 +90,22 @@ impl<'a> Lent<'a> {
     }
 
     /// The blocks in our output must be a cutting that keeps the packet rules, with as many
-    /// packets as answered, and with the fewest that the search finds.
+    /// packets as the call answers, which must be the fewest that the search finds.
     fn compare_cutting(
         &self,
         tally: &mut Tally,
-        settings: Settings,
+        report: Report,
         requests: &[Request],
         size: Size,
     ) -> Result<(), Mismatch> {
-        let mut out = vec![0; 24 * (16 * 2_048 + 16)];
-        let limit = settings.rounded_limit();
-        let Ok((packets, octets)) = self.calls.write(&self.words, settings, requests, &mut out)
+        let mut out = vec![0; LONGEST_OUTPUT];
+        let limit = report.rounded_limit();
+        let Ok((packets, octets)) = self.calls.write(&self.words, report, requests, &mut out)
         else {
             return Ok(());
         };
         let cutting = cutting_in(&out[..octets], requests);
-        let input = (settings, requests);
+        let input = (report, requests);
         tally.same(&("packets", input), Some(packets), cutting.as_ref().map(Vec::len))?;
         let broken = cutting.and_then(|cutting| broken_rule(requests, limit, &cutting));
         tally.same(&("rule broken by", input), broken, None)?;
@@ -119,33 +121,33 @@ impl<'a> Lent<'a> {
     fn random_lists(&mut self, tally: &mut Tally, rng: &mut Rng) -> Result<(), Mismatch> {
         for _ in 0..30 {
             let size = rng.pick(&[Size::Tiny, Size::Tiny, Size::Small, Size::Any]);
-            let most = if matches!(size, Size::Tiny) { 3 } else { 16 };
+            let most = if matches!(size, Size::Tiny) { 3 } else { MOST_REQUESTS };
             let mut requests = good_requests(rng, &self.store, most, size);
-            let settings = random_settings(rng, size);
-            self.compare(tally, settings, &requests, &[-1, 0, rng.below(20) as isize])?;
-            self.compare_cutting(tally, settings, &requests, size)?;
+            let report = random_report(rng, size);
+            self.compare(tally, report, &requests, &[-1, 0, rng.below(20) as isize])?;
+            self.compare_cutting(tally, report, &requests, size)?;
             for _ in 0..1 + rng.below(3) {
                 put_fault(rng, &mut requests);
-                self.compare(tally, settings, &requests, &[-40, 0])?;
+                self.compare(tally, report, &requests, &[-40, 0])?;
             }
         }
         Ok(())
     }
 }
 
-fn random_settings(rng: &mut Rng, size: Size) -> Settings {
+fn random_report(rng: &mut Rng, size: Size) -> Report {
     let limit = match (size, rng.below(16)) {
         (_, 0) => rng.pick(&[0, 4, 20, 23, 24, 9_000, 9_001, 9_004, 65_560, usize::MAX]),
-        (Size::Tiny, _) => 24 + rng.below(40) as usize,
-        (Size::Small, _) => 24 + rng.below(300) as usize,
-        (Size::Any, 1..=4) => 24 + rng.below(8_977) as usize,
+        (Size::Tiny, _) => LEAST_LIMIT + rng.below(40) as usize,
+        (Size::Small, _) => LEAST_LIMIT + rng.below(300) as usize,
+        (Size::Any, 1..=4) => LEAST_LIMIT + rng.below(LIMITS) as usize,
         (Size::Any, _) => rng.pick(&[24, 27, 28, 100, 1_200, 1_203, 9_000]),
     };
-    Settings { own: rng.u32(), rts: rng.u32(), limit }
+    Report { sender: rng.u32(), rts: rng.u32(), limit }
 }
 
-/// The cutting that the packets one behind the other hold, each block read as the request of its
-/// SSRC; `None` if they do not end with the octets, or a block is of no request.
+/// The cutting that packets back to back make, with each block taken for the request of its SSRC;
+/// `None` if the last packet does not end with the octets, or a block is of no request.
 fn cutting_in(mut octets: &[u8], requests: &[Request]) -> Option<Vec<Packet>> {
     let mut cutting = Vec::new();
     while !octets.is_empty() {
@@ -168,51 +170,55 @@ fn cutting_in(mut octets: &[u8], requests: &[Request]) -> Option<Vec<Packet>> {
 fn edges(calls: &WriterCalls, tally: &mut Tally) -> Result<(), Mismatch> {
     let mut rng = Rng::of_case(tally.seed, 0);
     let request = |ssrc, begin, count| Request { ssrc, begin, count };
-    let settings = |limit| Settings { own: 0xF1, rts: 0x0005_0000, limit };
+    let report = |limit| Report { sender: 0xF1, rts: 0x0005_0000, limit };
     for highest in [0u16, 1, 2_046, 2_047, 2_048, 40_000, 65_535] {
         let lent = Lent::of_highest(calls, &mut rng, &[highest]);
         for back in [0u16, 1, 2, 2_046, 2_047, 2_048, 32_767, 32_768, 65_535] {
             for count in [0, 1, 2, 3, back, back.wrapping_add(1), back.wrapping_add(2), 65_535] {
                 let requests = [request(1, highest.wrapping_sub(back), count)];
-                lent.compare(tally, settings(1_200), &requests, &[0])?;
+                lent.compare(tally, report(1_200), &requests, &[0])?;
             }
         }
     }
     let lent = Lent::of_highest(calls, &mut rng, &[2, 2]);
     let requests = [request(1, 65_534, 5), request(2, 0, 3)];
     let around: Vec<isize> = (-60..=8).collect();
-    for limit in 24..=60 {
-        lent.compare(tally, settings(limit), &requests, &around)?;
-        lent.compare_cutting(tally, settings(limit), &requests, Size::Tiny)?;
+    for limit in LEAST_LIMIT..=60 {
+        lent.compare(tally, report(limit), &requests, &around)?;
+        lent.compare_cutting(tally, report(limit), &requests, Size::Tiny)?;
     }
     Ok(())
 }
 
-/// Wrong shapes get 4, before a bad limit and too many requests, and the output stays.
+/// Wrong shapes are refused with 4, before a bad limit and too many requests.
 fn wrong_shapes(calls: &WriterCalls, tally: &mut Tally) -> Result<(), Mismatch> {
-    let requests = [Request { ssrc: 1, begin: 0, count: 0 }; 17];
-    for (places, cells) in [(0, 0), (0, 2_048), (1, 2_047), (1, 4_096), (2, 2_048), (17, 34_816)] {
-        let words = Words { places: vec![held(1, 0); places], cells: vec![0; cells] };
-        for (limit, n) in [(1_200, 1), (23, 1), (1_200, 17), (1_200, 0)] {
-            let settings = Settings { own: 1, rts: 2, limit };
+    let requests = [Request { ssrc: 1, begin: 0, count: 0 }; MOST_REQUESTS + 1];
+    let ring = CELLS_OF_A_PLACE;
+    let bad_store = Err(Refusal::BadStore.number());
+    for (places, cells) in
+        [(0, 0), (0, ring), (1, ring - 1), (1, 2 * ring), (2, ring), (17, 17 * ring)]
+    {
+        let words = Words { places: vec![place_word(1, 0); places], cells: vec![0; cells] };
+        for (limit, n) in [(1_200, 1), (23, 1), (1_200, MOST_REQUESTS + 1), (1_200, 0)] {
+            let report = Report { sender: 1, rts: 2, limit };
             let mut out = unwritten(100);
-            let ours = calls.write(&words, settings, &requests[..n], &mut out);
-            tally.same(&("write", places, cells, settings, n), ours, Err(4))?;
+            let ours = calls.write(&words, report, &requests[..n], &mut out);
+            tally.same(&("write", places, cells, report, n), ours, bad_store)?;
             tally.same(&("written", places, cells), Hex(&out), Hex(&unwritten(100)))?;
         }
     }
     Ok(())
 }
 
-/// Every limit from 20 to 9,004, on lists that reach over several packets of most of them.
+/// Every limit from 20 to 9,004, on lists that need several packets at most limits.
 fn every_limit(calls: &WriterCalls, tally: &mut Tally) -> Result<(), Mismatch> {
     let mut rng = Rng::of_case(tally.seed, 1);
     let lent = Lent::of_highest(calls, &mut rng, &[5, 65_535, 1_000]);
     for limit in 20..=9_004 {
-        let settings = Settings { limit, ..random_settings(&mut rng, Size::Any) };
+        let report = Report { limit, ..random_report(&mut rng, Size::Any) };
         let size = if limit < 600 { Size::Small } else { Size::Any };
         let requests = good_requests(&mut rng, &lent.store, 3, size);
-        lent.compare(tally, settings, &requests, &[0, -1])?;
+        lent.compare(tally, report, &requests, &[0, -1])?;
     }
     Ok(())
 }

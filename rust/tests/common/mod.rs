@@ -2,7 +2,7 @@
 
 use ccfb::{Mark, Store, Time};
 
-/// Streams 7 and 9, of which that number came and no other.
+/// Streams 7 and 9, of which only that number arrived.
 pub fn store_with(highest: u16) -> Store<2> {
     let mut store = Store::new();
     for ssrc in [7, 9] {

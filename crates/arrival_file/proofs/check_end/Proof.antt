@@ -4,15 +4,6 @@ use borrow.Author.Needs.{needs}
 use Rattle.arrival_file.proofs.check_end.Statement.{statement}
 use Rattle.arrival_file.proofs.check_end.Tie as tie
 
-enum-told : tie.Need-enum-told
-enum-told c = search needs
-
-enum-told-2 : tie.Need-enum-told-2
-enum-told-2 c = search needs
-
-enum-known-phase : tie.Need-enum-known-phase
-enum-known-phase c = search needs
-
 returns : tie.Need-returns
 returns c = rw (c .enum-told .given .1)
 
@@ -28,4 +19,9 @@ returns-4 c = rw (c .before .phase .given .1)
 pub check-end-spec : {M : Type 1} → statement M
 check-end-spec =
     tie.close
-    (tie.spec enum-told enum-told-2 enum-known-phase returns returns-2 returns-3 returns-4)
+    (tie.spec
+    (λ c. search needs) (λ c. search needs) (λ c. search needs)
+    returns
+    returns-2
+    returns-3
+    returns-4)

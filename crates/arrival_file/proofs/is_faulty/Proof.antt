@@ -19,7 +19,9 @@ returns-3 c = simp (le-ltb _ _ (c .before .before .if1 .left), c .if3 .taken)
 
 returns-4 : tie.Need-returns-4
 unfolding isFaulty
-returns-4 c = simp (le-ltb _ _ (c .before .before .if1 .left), le-ltb _ _ (c .before .if2 .left), eq-eqb (c .before .before .before .args .flag) 0 (omega arith))
+returns-4 c =
+    let args = c .before .before .before .args in
+    simp (le-ltb _ _ (c .before .before .if1 .left), le-ltb _ _ (c .before .if2 .left), eq-eqb (args .flag) 0 (omega arith))
 
 pub is-faulty-spec : {M : Type 1} → statement M
 is-faulty-spec = tie.close (tie.spec returns returns-2 returns-3 returns-4)

@@ -15,32 +15,12 @@ abbrev μ-loop : tie.MeasureT-loop
 loop-holds : tie.Need-loop-holds Inv-loop μ-loop
 loop-holds c = added-none (c .args .limit) (c .args .t2) (c .args .n) (omega arith)
 
-mul-r : tie.Need-mul-r Inv-loop μ-loop
-mul-r c = search needs
-
-array-copy-out-r : tie.Need-array-copy-out-r Inv-loop μ-loop
-array-copy-out-r c = search needs
-
-add-range-requires : tie.Need-add-range-requires Inv-loop μ-loop
-add-range-requires c κs = search needs
-
-add-packets : tie.Need-add-packets Inv-loop μ-loop
-add-packets c = search needs
-
-add-octets : tie.Need-add-octets Inv-loop μ-loop
-add-octets c = search needs
-
-add-i : tie.Need-add-i Inv-loop μ-loop
-add-i c = search needs
-
-loop-less : tie.Need-loop-less Inv-loop μ-loop
-loop-less c = search needs
-
 loop-again : tie.Need-loop-again Inv-loop μ-loop
 loop-again c =
-    let l = c .before .before .before .before .before .loop in
-    let a = c .before .before .before .before .before .before .args in
-    added-one (a .limit) (a .t2) (a .n) (omega arith) _ _ _ (l .i) _ (l .inv) (omega arith) (c .before .before .add-range .ensures)
+    let after-add-range = c .before .before in
+    let l = after-add-range .before .before .before .loop in
+    let a = after-add-range .before .before .before .before .args in
+    added-one (a .limit) (a .t2) (a .n) (omega arith) _ _ _ (l .i) _ (l .inv) (omega arith) (after-add-range .add-range .ensures)
 
 returns : tie.Need-returns Inv-loop μ-loop
 returns c =
@@ -55,12 +35,7 @@ measure-spec =
     Inv-loop
     μ-loop
     loop-holds
-    mul-r
-    array-copy-out-r
-    add-range-requires
-    add-packets
-    add-octets
-    add-i
-    loop-less
+    (λ c. search needs) (λ c. search needs) (λ c κs. search needs) (λ c. search needs) (λ c. search needs)
+    (λ c. search needs) (λ c. search needs)
     loop-again
     returns)

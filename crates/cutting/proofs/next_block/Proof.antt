@@ -7,14 +7,8 @@ use Rattle.cutting.proofs.Plan.{next-whole, next-part, next-closed}
 use Rattle.cutting.proofs.next_block.Statement.{statement}
 use Rattle.cutting.proofs.next_block.Tie as tie
 
-block-octets-requires : tie.Need-block-octets-requires
-block-octets-requires c κs = search needs
-
 returns : tie.Need-returns
 returns c = sym (next-whole _ _ (omega arith))
-
-numbers-in-requires : tie.Need-numbers-in-requires
-numbers-in-requires c κs = search needs
 
 returns-2 : tie.Need-returns-2
 returns-2 c = sym (next-closed _ _ (omega arith) (omega arith))
@@ -24,4 +18,9 @@ returns-3 c = ap Part (c .before .numbers-in .ensures) ∙ sym (next-part _ _ (o
 
 pub next-block-spec : {M : Type 1} → statement M
 next-block-spec =
-    tie.close (tie.spec block-octets-requires returns numbers-in-requires returns-2 returns-3)
+    tie.close (tie.spec
+    (λ c κs. search needs)
+    returns
+    (λ c κs. search needs)
+    returns-2
+    returns-3)

@@ -6,11 +6,10 @@ use Rattle.cutting.proofs.Plan.{after-sum}
 use Rattle.cutting.proofs.number_after.Statement.{statement}
 use Rattle.cutting.proofs.number_after.Tie as tie
 
-wrapping-add-u16-requires : tie.Need-wrapping-add-u16-requires
-wrapping-add-u16-requires c κs = search needs
-
 returns : tie.Need-returns
 returns c = c .wrapping-add-u16 .ensures ∙ sym (after-sum (c .before .args .begin) (c .before .args .j) (omega arith))
 
 pub number-after-spec : {M : Type 1} → statement M
-number-after-spec = tie.close (tie.spec wrapping-add-u16-requires returns)
+number-after-spec = tie.close (tie.spec
+    (λ c κs. search needs)
+    returns)

@@ -4,15 +4,6 @@ use borrow.Author.Needs.{needs}
 use Rattle.cutting.proofs.numbers_in.Statement.{statement}
 use Rattle.cutting.proofs.numbers_in.Tie as tie
 
-sub-result : tie.Need-sub-result
-sub-result c = search needs
-
-mul-result : tie.Need-mul-result
-mul-result c = search needs
-
-cast-result : tie.Need-cast-result
-cast-result c = search needs
-
 returns : tie.Need-returns
 returns c = omega arith
 
@@ -20,4 +11,7 @@ returns-2 : tie.Need-returns-2
 returns-2 c = omega arith
 
 pub numbers-in-spec : {M : Type 1} → statement M
-numbers-in-spec = tie.close (tie.spec sub-result mul-result cast-result returns returns-2)
+numbers-in-spec = tie.close (tie.spec
+    (λ c. search needs) (λ c. search needs) (λ c. search needs)
+    returns
+    returns-2)

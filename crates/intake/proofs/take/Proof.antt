@@ -4,39 +4,17 @@ use borrow.Author.Needs.{needs}
 use Rattle.intake.proofs.take.Statement.{statement}
 use Rattle.intake.proofs.take.Tie as tie
 
-enum-told : tie.Need-enum-told
-enum-told c = search needs
-
-take-file-requires : tie.Need-take-file-requires
-take-file-requires c κs = search needs
-
-enum-told-2 : tie.Need-enum-told-2
-enum-told-2 c = search needs
-
-take-records-requires : tie.Need-take-records-requires
-take-records-requires c κs = search needs
-
-enum-known-phase : tie.Need-enum-known-phase
-enum-known-phase c = search needs
-
-same-length : tie.Need-same-length
-same-length c = search needs
-
-same-length-2 : tie.Need-same-length-2
-same-length-2 c = search needs
-
 returns : tie.Need-returns
-returns c = rw (c .before .before .before .before .before .before .before .enum-told .given .1) (c .before .before .before .before .take-file .ensures)
-
-same-length-3 : tie.Need-same-length-3
-same-length-3 c = search needs
-
-same-length-4 : tie.Need-same-length-4
-same-length-4 c = search needs
+returns c =
+    let after-take-file = c .before .before .before .before in
+    let enum-told = after-take-file .before .before .before .enum-told in
+    rw (enum-told .given .1) (after-take-file .take-file .ensures)
 
 returns-2 : tie.Need-returns-2
 returns-2 c =
-    taken-as _ _ _ _ _ _ (in-records _ _ _ _ _ (c .before .before .before .before .before .before .before .enum-told2 .given .1)) (c .before .before .before .before .take-records .ensures)
+    let after-take-records = c .before .before .before .before in
+    let enum-told2 = after-take-records .before .before .before .enum-told2 in
+    taken-as _ _ _ _ _ _ (in-records _ _ _ _ _ (enum-told2 .given .1)) (after-take-records .take-records .ensures)
 
 returns-3 : tie.Need-returns-3
 returns-3 c = stopped _ _ _ _ _ _ (in-fault _ _ _ _ _ _ (c .before .phase .given .1))
@@ -45,15 +23,9 @@ pub take-spec : {M : Type 1} → statement M
 take-spec =
     tie.close
     (tie.spec
-    enum-told
-    take-file-requires
-    enum-told-2
-    take-records-requires
-    enum-known-phase
-    same-length
-    same-length-2
+    (λ c. search needs) (λ c κs. search needs) (λ c. search needs) (λ c κs. search needs) (λ c. search needs)
+    (λ c. search needs) (λ c. search needs)
     returns
-    same-length-3
-    same-length-4
+    (λ c. search needs) (λ c. search needs)
     returns-2
     returns-3)

@@ -51,8 +51,9 @@ loop-less c = omega arith
 
 loop-again : tie.Need-loop-again Inv-loop μ-loop
 loop-again c =
-    let l = c .before .before .before .before .loop in
-    let a = c .before .before .before .before .before .before .before .args in (
+    let at-loop = c .before .before .before .before in
+    let l = at-loop .loop in
+    let a = at-loop .before .before .before .args in (
       omega arith,
       simp length-set (l .inv .1),
       rw (c .before .hex-digit .ensures, c .hex-digit2 .ensures) (one-put (l .out) (a .packet .now) (l .i) (omega arith)) ∙ l .inv .2,
@@ -63,8 +64,9 @@ same-length c = c .before .loop .inv .1
 
 returns : tie.Need-returns Inv-loop μ-loop
 returns c =
+    let args = c .before .before .before .before .args in
     let l = c .before .loop in
-    sym (all-put (l .out) (c .before .before .before .before .args .packet .now) (l .i) (omega arith)) ∙ l .inv .2
+    sym (all-put (l .out) (args .packet .now) (l .i) (omega arith)) ∙ l .inv .2
 
 pub put-hex-spec : {M : Type 1} → statement M
 put-hex-spec =

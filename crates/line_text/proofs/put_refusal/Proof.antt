@@ -6,63 +6,31 @@ use borrow.Author.Needs.{needs}
 use Rattle.line_text.proofs.put_refusal.Statement.{statement}
 use Rattle.line_text.proofs.put_refusal.Tie as tie
 
-put-refused-requires : tie.Need-put-refused-requires
-put-refused-requires c κs = search needs
-
-number-requires : tie.Need-number-requires
-number-requires c κs = search needs
-
-add-out : tie.Need-add-out
-add-out c = search needs
-
-slice-write-out : tie.Need-slice-write-out
-slice-write-out c = search needs
-
 slice-write-out-2 : tie.Need-slice-write-out-2
 slice-write-out-2 c = simp length-set (omega arith)
 
-same-length : tie.Need-same-length
-same-length c = search needs
-
 returns : tie.Need-returns
-returns c = short-put _ _ _ _ (c .before .number .ensures) (c .before .before .before .before .put-refused .ensures) (c .if1 .taken)
-
-add-out-2 : tie.Need-add-out-2
-add-out-2 c = search needs
-
-slice-write-out-3 : tie.Need-slice-write-out-3
-slice-write-out-3 c = search needs
-
-add-out-3 : tie.Need-add-out-3
-add-out-3 c = search needs
+returns c =
+    let put-refused = c .before .before .before .before .put-refused in
+    short-put _ _ _ _ (c .before .number .ensures) (put-refused .ensures) (c .if1 .taken)
 
 slice-write-out-4 : tie.Need-slice-write-out-4
 slice-write-out-4 c = simp length-set (omega arith)
 
-slice-write-out-5 : tie.Need-slice-write-out-5
-slice-write-out-5 c = search needs
-
-same-length-2 : tie.Need-same-length-2
-same-length-2 c = search needs
-
 returns-2 : tie.Need-returns-2
-returns-2 c = long-put _ _ _ _ (c .before .number .ensures) (c .before .before .before .before .put-refused .ensures) (c .if1 .left)
+returns-2 c =
+    let put-refused = c .before .before .before .before .put-refused in
+    long-put _ _ _ _ (c .before .number .ensures) (put-refused .ensures) (c .if1 .left)
 
 pub put-refusal-spec : {M : Type 1} → statement M
 put-refusal-spec =
     tie.close
     (tie.spec
-    put-refused-requires
-    number-requires
-    add-out
-    slice-write-out
+    (λ c κs. search needs) (λ c κs. search needs) (λ c. search needs) (λ c. search needs)
     slice-write-out-2
-    same-length
+    (λ c. search needs)
     returns
-    add-out-2
-    slice-write-out-3
-    add-out-3
+    (λ c. search needs) (λ c. search needs) (λ c. search needs)
     slice-write-out-4
-    slice-write-out-5
-    same-length-2
+    (λ c. search needs) (λ c. search needs)
     returns-2)

@@ -5,9 +5,6 @@ use borrow.Author.Needs.{needs}
 use Rattle.line_text.proofs.put_refused.Statement.{statement}
 use Rattle.line_text.proofs.put_refused.Tie as tie
 
-slice-write-out : tie.Need-slice-write-out
-slice-write-out c = search needs
-
 slice-write-out-2 : tie.Need-slice-write-out-2
 slice-write-out-2 c = simp length-set (omega arith)
 
@@ -26,26 +23,15 @@ slice-write-out-6 c = simp length-set (omega arith)
 slice-write-out-7 : tie.Need-slice-write-out-7
 slice-write-out-7 c = simp length-set (omega arith)
 
-slice-write-out-8 : tie.Need-slice-write-out-8
-slice-write-out-8 c = search needs
-
-same-length : tie.Need-same-length
-same-length c = search needs
-
-returns : tie.Need-returns
-returns c = search needs
-
 pub put-refused-spec : {M : Type 1} → statement M
 put-refused-spec =
     tie.close
     (tie.spec
-    slice-write-out
+    (λ c. search needs)
     slice-write-out-2
     slice-write-out-3
     slice-write-out-4
     slice-write-out-5
     slice-write-out-6
     slice-write-out-7
-    slice-write-out-8
-    same-length
-    returns)
+    (λ c. search needs) (λ c. search needs) (λ c. search needs))

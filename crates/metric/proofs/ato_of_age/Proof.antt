@@ -1,14 +1,11 @@
 -- `metric::ato_of_age` meets its contract. Assumes nothing.
-use mathlib.Core.Path.{_≡_, sym, _∙_}
+use mathlib.Core.Path.{sym, _∙_}
 use mathlib.Core.Logic.{⊎-elim}
 use native.Mathlib.Omega.{arith}
 use borrow.Author.Needs.{needs}
 use Rattle.metric.proofs.Table.{after-row, over-row, else-row}
 use Rattle.metric.proofs.ato_of_age.Statement.{statement}
 use Rattle.metric.proofs.ato_of_age.Tie as tie
-
-cast-rounded : tie.Need-cast-rounded
-cast-rounded c = search needs
 
 returns : tie.Need-returns
 returns c = (sym (after-row _ (c .if2 .taken)), omega arith)
@@ -21,4 +18,7 @@ returns-2 c =
     (c .before .if1 .came)
 
 pub ato-of-age-spec : {M : Type 1} → statement M
-ato-of-age-spec = tie.close (tie.spec cast-rounded returns returns-2)
+ato-of-age-spec = tie.close (tie.spec
+    (λ c. search needs)
+    returns
+    returns-2)

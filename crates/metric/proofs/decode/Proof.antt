@@ -9,9 +9,6 @@ returns : tie.Need-returns
 unfolding decodeOf
 returns c = simp (lt-ltb _ _ (c .if1 .taken))
 
-cast-mark : tie.Need-cast-mark
-cast-mark c = search needs
-
 returns-2 : tie.Need-returns-2
 unfolding decodeOf
 returns-2 c = simp (le-ltb _ _ (c .before .if1 .left), eq-eqb _ _ (c .if2 .taken))
@@ -25,4 +22,9 @@ unfolding decodeOf
 returns-4 c = simp (le-ltb _ _ (c .before .before .if1 .left), ne-eqb _ _ (c .before .if2 .left), ne-eqb _ _ (c .if3 .left))
 
 pub decode-spec : {M : Type 1} → statement M
-decode-spec = tie.close (tie.spec returns cast-mark returns-2 returns-3 returns-4)
+decode-spec = tie.close (tie.spec
+    returns
+    (λ c. search needs)
+    returns-2
+    returns-3
+    returns-4)

@@ -9,15 +9,14 @@ returns : tie.Need-returns
 unfolding filler
 returns c = simp (eq-eqb _ _ (c .if1 .taken))
 
-put16-requires : tie.Need-put16-requires
-put16-requires c κs = search needs
-
-same-length : tie.Need-same-length
-same-length c = search needs
-
 returns-2 : tie.Need-returns-2
 unfolding filler
-returns-2 c = simp (ne-eqb _ _ (c .before .before .before .before .if1 .left)) (c .before .before .put16 .ensures)
+returns-2 c =
+    let if1 = c .before .before .before .before .if1 in
+    simp (ne-eqb _ _ (if1 .left)) (c .before .before .put16 .ensures)
 
 pub put-filler-spec : {M : Type 1} → statement M
-put-filler-spec = tie.close (tie.spec returns put16-requires same-length returns-2)
+put-filler-spec = tie.close (tie.spec
+    returns
+    (λ c κs. search needs) (λ c. search needs)
+    returns-2)

@@ -20,10 +20,12 @@ use prog.Wp.{Heap, Wp, WpFn, atReturn, afterTurn, Tables}
 use ghost.Atoms.{Atoms}
 use contract.Monad.{Fun, factI}
 use contract.Running.{givenOf, tables, tablesOf}
-use types.Kit.{Given, Item, ‵, raw, _⊛_, ⋆, del, atRet, _$_, _∵_, !, qed, by, move, keep, drop, use1, use2, split, join, some, pick, rewrite, fsplit, fjoin, feqI}
+use types.Kit.{Given, Item, ‵, raw, _⊛_, ⋆, del, atRet, _$_, _∵_, !, qed, by, move, keep, drop}
+use types.Kit.{use1, use2, split, join, some, pick, rewrite, fsplit, fjoin, feqI}
 use types.Share.{arr-parts}
 use types.Part.{whole, sub, look-in, agg, rep}
-use types.Run.{look, look-raw, store, store-raw, init, forget, stop, hop, fld, from, load, lit, of-opd, bin, addr, assigns, assigns-last, no-more, and-then, first, branches, skips, blocks, loops, again, returns, enter, exec, params1, pass1, pass0}
+use types.Run.{look, look-raw, store, store-raw, init, forget, stop, hop, fld, from, load, lit, of-opd, bin, addr, assigns, assigns-last}
+use types.Run.{no-more, and-then, first, branches, skips, blocks, loops, again, returns, enter, exec, params1, pass1, pass0}
 use denote.RattleType.{RattleType, owns}
 use denote.Laws.{Is, shows, Lawful, Copy, Makes, Tells}
 use denote.Array.{Array, arrayVal, array-repeat, array-lawful}
@@ -63,7 +65,8 @@ vals = LL.vals T.the-type T′.the-laws
 abbrev told : Tells R (Is R) vals
 told = LL.tells T.the-type T′.the-laws
 
-module _ {M : Type 1} (𝓤 : URA M) (H : Heap 𝓤) (A : Atoms 𝓤) (W : Given 𝓤 H A) (mem : Memory → SProp 𝓤) (run : Routine → Fun 𝓤) (κ : Lft) (q : Share) (b o : ℕ) (γ : GName) (ys : List Request) where
+module _ {M : Type 1} (𝓤 : URA M) (H : Heap 𝓤) (A : Atoms 𝓤) (W : Given 𝓤 H A) (mem : Memory → SProp 𝓤)
+    (run : Routine → Fun 𝓤) (κ : Lft) (q : Share) (b o : ℕ) (γ : GName) (ys : List Request) where
   abbrev lawful : Lawful 𝓤 H A R
   lawful = LL.lawful T.the-type T′.the-laws 𝓤 H A W
 
@@ -97,9 +100,11 @@ module _ {M : Type 1} (𝓤 : URA M) (H : Heap 𝓤) (A : Atoms 𝓤) (W : Given
     abbrev to : ℕ
     to = l .1 .1 .0
 
-    -- the invariant: `all` by its elements, the token, what is lent, and each local but `all` (which would stand at 4 of them). The local k, from 3 on, stands at 2 · k + 2
+    -- the invariant: `all` by its elements, the token, what is lent, and each local but `all` (which would
+    -- stand at 4 of them). The local k, from 3 on, stands at 2 · k + 2
     abbrev At : ℕ → List (Item 𝓤)
-    At i = ‵ (row R fullShare (all i) to 0) ∷ ‵ (flft κ q) ∷ ‵ Lent ∷ del 𝓤 H A 4 (cells 𝓤 body.locals l (room ∷ holds v ∷ room ∷ holds (vint w64 i) ∷ holds (vint w64 n) ∷ []))
+    At i = ‵ (row R fullShare (all i) to 0) ∷ ‵ (flft κ q) ∷ ‵ Lent ∷ del 𝓤 H A 4
+        (cells 𝓤 body.locals l (room ∷ holds v ∷ room ∷ holds (vint w64 i) ∷ holds (vint w64 n) ∷ []))
 
     abbrev Turn : Type 0
     Turn = (i : ℕ) × (i ≤ n)
@@ -122,7 +127,8 @@ module _ {M : Type 1} (𝓤 : URA M) (H : Heap 𝓤) (A : Atoms 𝓤) (W : Given
         lets ! 18 refl (bin ! (var ! 8 refl) (lit ! tt) (record { fits = small })) (tt, record { fits = small }) $
         lets ! 20 refl (bin ! (load ! (from ! (fld ! refl (stop !))) (look-in ! 5 (sub ! 0 refl (whole !)))) (var ! 18 refl) tt) (tt, tt) $
         rewrite ! 20 (λ (p : ℕ). ‵ (fat fullShare tyPtr (l .1 .1 .1 .1 .1 .1 .1 .1 .1 .0) 0 (vptr b p))) (sym (place-is 8 o i)) refl $
-        move ! (2 ∷ 1 ∷ []) $ looks-slice ! tt R (Is R) (shows 𝓤 H A R) vals told copies ys b o (λ q′. elem-out ! R (Is R) (shows 𝓤 H A R) vals told q′ ys i blank b o here (λ g.
+        move ! (2 ∷ 1 ∷ []) $ looks-slice ! tt R (Is R) (shows 𝓤 H A R) vals told copies ys b o
+        (λ q′. elem-out ! R (Is R) (shows 𝓤 H A R) vals told q′ ys i blank b o here (λ g.
         -- [requests[i]; what it owns; the others; the open borrow; what is lent; all; the locals]
         lets ! 25 refl (of-opd ! (load ! (from ! (hop ! (look ! 23 refl) (stop !))) (look-raw ! 0 refl))) (lawful .typed (getD ys i blank) _ g .0) $
         elem-back ! R q′ ys i blank (vals (getD ys i blank)) b o here $ shuts-slice ! tt R q′ ys b o $
@@ -133,7 +139,8 @@ module _ {M : Type 1} (𝓤 : URA M) (H : Heap 𝓤) (A : Atoms 𝓤) (W : Given
         move ! (2 ∷ []) $ elem-out ! R (Is R) (shows 𝓤 H A R) vals told fullShare (all i) i blank to 0 free (λ _.
         -- [all[i]; what it owns; the others; the token; what is lent; the locals]
         assigns ! (of-opd ! (var ! 24 refl)) (from ! (hop ! (look ! 30 refl) (stop !))) (store-raw ! 0 refl (lawful .typed (getD ys i blank) _ g .0)) $
-        move ! (1 ∷ []) $ drop ! $ owned ! R (Is R) makes (getD ys i blank) _ g $ move ! (1 ∷ 0 ∷ []) $ elem-put ! R fullShare (all i) i (getD ys i blank) (vals (getD ys i blank)) to 0 free $
+        move ! (1 ∷ []) $ drop ! $ owned ! R (Is R) makes (getD ys i blank) _ g $ move ! (1 ∷ 0 ∷ []) $
+        elem-put ! R fullShare (all i) i (getD ys i blank) (vals (getD ys i blank)) to 0 free $
         rewrite ! 0 (λ (xs : List Request). ‵ (row R fullShare xs to 0)) (one-more blanks ys i blank (omega (arith, less, few)) here) refl $
         assigns-last ! (bin ! (var ! 8 refl) (lit ! tt) (record { fits = next })) (from ! (stop !)) (store ! 8 refl (tt, record { fits = next })) $
         forget ! 16 refl $ forget ! 18 refl $ forget ! 20 refl $ forget ! 22 refl $ forget ! 24 refl $ forget ! 26 refl $ forget ! 28 refl $
@@ -141,42 +148,56 @@ module _ {M : Type 1} (𝓤 : URA M) (H : Heap 𝓤) (A : Atoms 𝓤) (W : Given
         let left : i ≡ n = omega (arith, x .1, nltb→le i n h) in
         exec ! (𝓣 .C) (𝓣 .Λ) (env 𝓤 H body.locals l) body.t-8 (atRet (env 𝓤 H body.locals l) Post) $
         rewrite ! 0 (λ (xs : List Request). ‵ (row R fullShare xs to 0)) (ap all left ∙ all-there blanks ys n 16 few there same) refl $
-        feqI ! ℕ (length (gatheredOf ys)) 16 (length-sets blanks 0 (take 16 ys)) $ fjoin ! $ use1 W (‵ (partAt (Array R 16) fullShare (gatheredOf ys) to 0)) (array-whole 𝓤 H A W R fullShare 16 (gatheredOf ys) to 0) $
-        use1 W (some (λ (u : Val). ‵ (fat fullShare (lone (Array R 16 .mir)) to 0 u) ⊛ ‵ (Array R 16 .own (gatheredOf ys) (u ∷ [])))) (part-out 𝓤 H A W (Array R 16) refl fullShare (gatheredOf ys) to 0) $ pick ! (λ u. split ! $ move ! (1 ∷ []) $
+        feqI ! ℕ (length (gatheredOf ys)) 16 (length-sets blanks 0 (take 16 ys)) $ fjoin ! $
+        use1 W (‵ (partAt (Array R 16) fullShare (gatheredOf ys) to 0)) (array-whole 𝓤 H A W R fullShare 16 (gatheredOf ys) to 0) $
+        use1 W (some (λ (u : Val). ‵ (fat fullShare (lone (Array R 16 .mir)) to 0 u) ⊛ ‵ (Array R 16 .own (gatheredOf ys) (u ∷ []))))
+        (part-out 𝓤 H A W (Array R 16) refl fullShare (gatheredOf ys) to 0) $ pick ! (λ u. split ! $ move ! (1 ∷ []) $
         peeks ! (Array R 16) (Is (Array R 16)) (shows 𝓤 H A (Array R 16)) (gatheredOf ys) _ (λ is.
         -- [what the result owns; all; the token; what is lent; the other locals]
-        lets ! 4 refl (of-opd ! (var ! 1 refl)) (array-lawful 𝓤 H A W R lawful 16 .typed (gatheredOf ys) _ is .0) $ returns ! (look ! 4 refl) $ move ! (span 4 4 ++ (1 ∷ span 8 23)) $
+        lets ! 4 refl (of-opd ! (var ! 1 refl)) (array-lawful 𝓤 H A W R lawful 16 .typed (gatheredOf ys) _ is .0) $
+        returns ! (look ! 4 refl) $ move ! (span 4 4 ++ (1 ∷ span 8 23)) $
         frees-all ! body.locals l (holds _ ∷ holds _ ∷ holds _ ∷ holds _ ∷ holds _ ∷ room ∷ room ∷ holds _ ∷ []) $
-        nothing ! $ nothing ! $ fjoin ! $ nothing ! $ move ! (3 ∷ 0 ∷ []) $ join ! $ use1 W (raw (alive 𝓤 H A f.signature (κ, tt) (q, tt))) (id⊢ 𝓤 _) $ move ! (0 ∷ 2 ∷ 1 ∷ []) $
+        nothing ! $ nothing ! $ fjoin ! $ nothing ! $ move ! (3 ∷ 0 ∷ []) $ join ! $
+        use1 W (raw (alive 𝓤 H A f.signature (κ, tt) (q, tt))) (id⊢ 𝓤 _) $ move ! (0 ∷ 2 ∷ 1 ∷ []) $
         ends ! f.ended (f.clauses 𝓤 H A mem run) bound u (gatheredOf ys) (tt, tt) (factI 𝓤 (gatheredOf ys ≡ gatheredOf ys) (emp 𝓤) refl))))) (0, omega arith)
 
-  walk : (𝓣 : Tables 𝓤 H) → Room R (length ys) → ent 𝓤 (onEntry 𝓤 H A f.signature (κ, tt) (q, tt) (s, tt) (v ∷ [], tt)) (WpFn 𝓤 H (𝓣 .C) (𝓣 .Λ) code.function (v ∷ []) Post)
+  walk : (𝓣 : Tables 𝓤 H) → Room R (length ys)
+      → ent 𝓤 (onEntry 𝓤 H A f.signature (κ, tt) (q, tt) (s, tt) (v ∷ [], tt)) (WpFn 𝓤 H (𝓣 .C) (𝓣 .Λ) code.function (v ∷ []) Post)
   walk 𝓣 fits =
       qed W ((‵ (flft κ q) ⊛ ‵ ftrue) ∷ ‵ (owns (ShrSlice (named 0) κ R ∷ []) (s, tt) (v ∷ [], tt)) ∷ []) ∵ enter ! (𝓣 .C) (𝓣 .Λ) code.function (v ∷ []) _ $
       allocs-all ! body.locals (λ l. params1 ! $ pass1 ! (init ! 2 refl (tt, (tt, (record { fits = fits .0 }, tt)))) $ pass0 ! $
       -- all: 16 blank requests, which are then taken apart
-      lets ! 10 refl (agg ! (and-then ! (lit ! tt) (and-then ! (lit ! tt) (and-then ! (lit ! tt) (no-more !))))) (tt, (record { fits = lit< tt }, (record { fits = lit< tt }, (record { fits = lit< tt }, tt)))) $
+      lets ! 10 refl (agg ! (and-then ! (lit ! tt) (and-then ! (lit ! tt) (and-then ! (lit ! tt) (no-more !)))))
+      (tt, (record { fits = lit< tt }, (record { fits = lit< tt }, (record { fits = lit< tt }, tt)))) $
       owned ! R (Is R) makes blank (vals blank) (LL.owes T.the-type T′.the-laws blank ((refl, lit< tt), ((refl, lit< tt), ((refl, lit< tt), tt)))) $
       use1 W (‵ (Array R 16 .own blanks (arrayVal (replicate 16 (val blank)) ∷ []))) (array-repeat 𝓤 H A W R copies 16 blank (val blank)) $
       peeks ! (Array R 16) (Is (Array R 16)) (shows 𝓤 H A (Array R 16)) blanks _ (λ is.
       lets ! 5 refl (rep ! 16 (var ! 11 refl)) (array-lawful 𝓤 H A W R lawful 16 .typed blanks _ is .0) $
-      move ! (5 ∷ 0 ∷ []) $ use2 W (‵ (partAt (Array R 16) fullShare blanks (l .1 .1 .0) 0)) (part-in 𝓤 H A W (Array R 16) refl fullShare blanks (l .1 .1 .0) 0 _) $
-      use1 W (‵ (fsep (feq ℕ 16 16) (row R fullShare blanks (l .1 .1 .0) 0))) (array-apart 𝓤 H A W R fullShare tt 16 blanks (l .1 .1 .0) 0) $ fsplit ! $ drop ! $
+      move ! (5 ∷ 0 ∷ []) $ use2 W (‵ (partAt (Array R 16) fullShare blanks (l .1 .1 .0) 0))
+      (part-in 𝓤 H A W (Array R 16) refl fullShare blanks (l .1 .1 .0) 0 _) $
+      use1 W (‵ (fsep (feq ℕ 16 16) (row R fullShare blanks (l .1 .1 .0) 0))) (array-apart 𝓤 H A W R fullShare tt 16 blanks (l .1 .1 .0) 0) $
+      fsplit ! $ drop ! $
       -- i, n, and the test of n
-      lets ! 6 refl (of-opd ! (lit ! tt)) (tt, record { fits = lit< tt }) $ lets ! 8 refl (of-opd ! (load ! (from ! (fld ! refl (stop !))) (look-in ! 3 (sub ! 1 refl (whole !))))) (tt, record { fits = fits .0 }) $
+      lets ! 6 refl (of-opd ! (lit ! tt)) (tt, record { fits = lit< tt }) $
+      lets ! 8 refl (of-opd ! (load ! (from ! (fld ! refl (stop !))) (look-in ! 3 (sub ! 1 refl (whole !))))) (tt, record { fits = fits .0 }) $
       lets ! 12 refl (bin ! (lit ! tt) (var ! 8 refl) tt) (tt, tt) $ forget ! 10 refl $
       move ! (28 ∷ []) $ split ! $ move ! (30 ∷ []) $ fsplit ! $ fsplit ! $ drop ! $ fsplit ! $ drop ! $
       -- [what is lent; true; the token; true; all; the other locals]
       first ! $ branches ! (var ! 16 refl)
-      (λ h. assigns-last ! (of-opd ! (lit ! tt)) (from ! (stop !)) (store ! 12 refl (tt, record { fits = lit< tt })) $ forget ! 16 refl $ keep ! (4 ∷ 2 ∷ 0 ∷ span 5 27) $
+      (λ h. assigns-last ! (of-opd ! (lit ! tt)) (from ! (stop !)) (store ! 12 refl (tt, record { fits = lit< tt })) $
+      forget ! 16 refl $ keep ! (4 ∷ 2 ∷ 0 ∷ span 5 27) $
       by ! (loop 𝓣 l 16 (omega arith) (omega (arith, ltb→lt 16 (length ys) h)) refl))
       (λ h. skips ! $ forget ! 16 refl $ keep ! (4 ∷ 2 ∷ 0 ∷ span 5 27) $
-      by ! (loop 𝓣 l (length ys) (nltb→le 16 (length ys) h) (omega arith) (take-all (length ys) ys (omega arith) ∙ sym (take-all 16 ys (nltb→le 16 (length ys) h)))))))
+      by ! (loop 𝓣 l (length ys) (nltb→le 16 (length ys) h) (omega arith)
+      (take-all (length ys) ys (omega arith) ∙ sym (take-all 16 ys (nltb→le 16 (length ys) h)))))))
 
 pub gathered-spec : {M : Type 1} → stated.statement M
 unfolding code.routine tablesOf
 gathered-spec 𝓤 H 𝓜 𝓖 𝓡 =
     let 𝓣 : Tables 𝓤 H = tablesOf 𝓤 H 𝓜 (tables 𝓤 H 𝓜 𝓡 code.env) in
-    entered 𝓤 H (tripleOf 𝓤 H (𝓖 .A) f.signature (f.spec 𝓤 H (𝓖 .A) (𝓜 .mem) (𝓡 .run))) (tables 𝓤 H 𝓜 𝓡 code.env .C) (tables 𝓤 H 𝓜 𝓡 code.env .Λ) #gathered code.function (code.unfolded 𝓤 H 𝓜 𝓡)
-    (meets 𝓤 H (𝓖 .A) f.ended (f.clauses 𝓤 H (𝓖 .A) (𝓜 .mem) (𝓡 .run)) (WpFn 𝓤 H (𝓣 .C) (𝓣 .Λ) code.function) (λ κs. (slice-vals, tt)) (λ κs. (shr-slice-tells (named 0) (κs .0) R, tt))
-    (λ κs qs bounds a g are. walk 𝓤 H (𝓖 .A) (givenOf 𝓤 H 𝓜 𝓖) (𝓜 .mem) (𝓡 .run) (κs .0) (qs .0) (a .0 .ptr .0) (a .0 .ptr .1) (a .0 .name) (a .0 .now) 𝓣 (are .0 .0 .1)))
+    entered 𝓤 H (tripleOf 𝓤 H (𝓖 .A) f.signature (f.spec 𝓤 H (𝓖 .A) (𝓜 .mem) (𝓡 .run))) (tables 𝓤 H 𝓜 𝓡 code.env .C)
+    (tables 𝓤 H 𝓜 𝓡 code.env .Λ) #gathered code.function (code.unfolded 𝓤 H 𝓜 𝓡)
+    (meets 𝓤 H (𝓖 .A) f.ended (f.clauses 𝓤 H (𝓖 .A) (𝓜 .mem) (𝓡 .run)) (WpFn 𝓤 H (𝓣 .C) (𝓣 .Λ) code.function)
+    (λ κs. (slice-vals, tt)) (λ κs. (shr-slice-tells (named 0) (κs .0) R, tt))
+    (λ κs qs bounds a g are. walk 𝓤 H (𝓖 .A) (givenOf 𝓤 H 𝓜 𝓖) (𝓜 .mem) (𝓡 .run) (κs .0) (qs .0) (a .0 .ptr .0)
+    (a .0 .ptr .1) (a .0 .name) (a .0 .now) 𝓣 (are .0 .0 .1)))

@@ -5,61 +5,55 @@ use mathlib.Core.Bool.{true}
 use native.Mathlib.Omega.{arith}
 use borrow.Author.Tests.{not-true, not-false}
 use lib.ListN.{length}
-use Rattle.store.specs.Store.{shaped}
-use Rattle.store.proofs.Shape.{is-shaped, ready-found}
+use Rattle.places.specs.Shape.{shaped}
+use Rattle.places.proofs.Shape.{is-shaped, ready-found}
 use Rattle.store.proofs.Calls.{forgotten-misshapen, forgotten-held, forgotten-none}
 use borrow.Author.Needs.{needs}
 use Rattle.store.proofs.forget.Statement.{statement}
 use Rattle.store.proofs.forget.Tie as tie
 
 -- past the first test the store is shaped
-shaped-here : (c : tie.Else1) → shaped (c .before .before .before .before .before .args .places .now) (c .before .before .before .before .before .args .cells .now) ≡ true
+shaped-here : (c : tie.Else1)
+    → let after-slice-known = c .before .before .before .before in
+    let args = after-slice-known .before .args in
+    shaped (args .places .now) (args .cells .now) ≡ true
 shaped-here c = sym (c .before .is-shaped .ensures) ∙ not-false _ (c .if1 .left)
 
 -- the place found is there
-there : (c : tie.After-known-told) → c .before .known .given .0 .0 < length (c .before .before .before .before .before .before .before .before .before .before .args .places .now)
+there : (c : tie.After-known-told)
+    → let at-match-keys1 = c .before .before in
+    let else1 = at-match-keys1 .before .before .before in
+    let after-slice-known = else1 .before .before .before .before in
+    let args = after-slice-known .before .args in
+    c .before .known .given .0 .0 < length (args .places .now)
 there c =
     let k = c .before in
     let f = k .before .before in
     let e = f .before .before in
-    let a = e .before .before .before .before .before .args in
-    ready-found (a .places .now) (a .cells .now) _ _ (is-shaped (a .places .now) (a .cells .now) (shaped-here e)) (sym (f .find .ensures) ∙ k .known .given .1) .there
-
-is-shaped-requires : tie.Need-is-shaped-requires
-is-shaped-requires c κs = search needs
-
-same-length : tie.Need-same-length
-same-length c = search needs
+    let after-slice-known = e .before .before .before .before in
+    let a = after-slice-known .before .args in
+    ready-found (a .places .now) (a .cells .now) _ _ (is-shaped (a .places .now) (a .cells .now) (shaped-here e))
+    (sym (f .find .ensures) ∙ k .known .given .1) .there
 
 returns : tie.Need-returns
 returns c = forgotten-misshapen _ _ _ (sym (c .before .is-shaped .ensures) ∙ not-true _ (c .if1 .taken))
 
-find-requires : tie.Need-find-requires
-find-requires c κs = search needs
-
-enum-known-known : tie.Need-enum-known-known
-enum-known-known c = search needs
-
 mul-places : tie.Need-mul-places
-mul-places c = omega (arith, there c, c .before .before .before .before .before .before .before .before .before .before .good)
+mul-places c =
+    let at-match-keys1 = c .before .before in
+    let else1 = at-match-keys1 .before .before .before in
+    let after-slice-known = else1 .before .before .before .before in
+    let good = after-slice-known .before .good in
+    omega (arith, there c, good)
 
 slice-write-places : tie.Need-slice-write-places
 slice-write-places c = there c
-
-same-length-2 : tie.Need-same-length-2
-same-length-2 c = search needs
 
 returns-2 : tie.Need-returns-2
 returns-2 c =
     let k = c .before in
     let f = k .before .before in
     forgotten-held _ _ _ _ (shaped-here (f .before .before)) (sym (f .find .ensures) ∙ k .known .given .1)
-
-enum-told : tie.Need-enum-told
-enum-told c = search needs
-
-same-length-3 : tie.Need-same-length-3
-same-length-3 c = search needs
 
 returns-3 : tie.Need-returns-3
 returns-3 c =
@@ -70,15 +64,12 @@ pub forget-spec : {M : Type 1} → statement M
 forget-spec =
     tie.close
     (tie.spec
-    is-shaped-requires
-    same-length
+    (λ c κs. search needs) (λ c. search needs)
     returns
-    find-requires
-    enum-known-known
+    (λ c κs. search needs) (λ c. search needs)
     mul-places
     slice-write-places
-    same-length-2
+    (λ c. search needs)
     returns-2
-    enum-told
-    same-length-3
+    (λ c. search needs) (λ c. search needs)
     returns-3)

@@ -3,96 +3,66 @@ use Prim.Native.Nat.{min}
 use mathlib.Core.Path.{_≡_, sym, _∙_}
 use native.Mathlib.Omega.{arith}
 use Rattle.window.specs.Number.{moveOf}
-use Rattle.window.specs.declared.Move.the-variants as move
+use Rattle.window.specs.Ring.{cellsOfAPlace}
 use Rattle.window.proofs.Number.{ahead-is}
-use Rattle.store.specs.Place.{highestAt}
-use Rattle.store.proofs.Calls.{continued-by}
+use Rattle.places.specs.Place.{highestAt}
+use Rattle.places.proofs.Moving.{continued-by}
+use Rattle.store.proofs.Calls.{continued-ahead}
 use borrow.Author.Needs.{needs}
 use Rattle.store.proofs.resume.Statement.{statement}
 use Rattle.store.proofs.resume.Tie as tie
 
 -- how the number moves the window of the place
-step-is : (c : tie.After-move-of) → c .move-of .result ≡ moveOf (highestAt (c .before .before .before .before .before .args .places .now) (c .before .before .before .before .before .args .p)) (c .before .before .before .before .before .args .number)
+step-is : (c : tie.After-move-of)
+    → let after-slice-known = c .before .before .before .before in
+    let args = after-slice-known .before .args in
+    c .move-of .result ≡ moveOf (highestAt (args .places .now) (args .p)) (args .number)
 step-is c = rw (← c .before .highest-at .ensures) (c .move-of .ensures)
 
-highest-at-requires : tie.Need-highest-at-requires
-highest-at-requires c κs = search needs
-
-move-of-requires : tie.Need-move-of-requires
-move-of-requires c κs = search needs
-
-enum-known-step : tie.Need-enum-known-step
-enum-known-step c = search needs
-
-newly-requires : tie.Need-newly-requires
-newly-requires c κs = search needs
-
-advance-requires : tie.Need-advance-requires
-advance-requires c κs =
-    let m = c .before .before .before .before in
-    let e = m .before .before in
-    let a = e .before .before .before .before .before .args in
-    let f = m .step .given .0 .0 in
-    let known = ahead-is (highestAt (a .places .now) (a .p)) (a .number) f (sym (step-is e) ∙ m .step .given .1) in
-    let n : c .newly .result ≡ min f 2048 = c .newly .ensures in
-    (e .before .before .before .before .before .pre, (omega (arith, known .1), omega arith))
-
-enum-told : tie.Need-enum-told
-enum-told c = search needs
-
-enter-requires : tie.Need-enter-requires
-enter-requires c κs = search needs
-
-enum-told-2 : tie.Need-enum-told-2
-enum-told-2 c = search needs
-
-same-length : tie.Need-same-length
-same-length c = search needs
-
-same-length-2 : tie.Need-same-length-2
-same-length-2 c = search needs
+open-window-requires : tie.Need-open-window-requires
+open-window-requires c κs =
+    let after-known-told = c .before .before .before .before in
+    let told = after-known-told .before in
+    let after-highest-at-arg = told .before .before .before .before in
+    let start = after-highest-at-arg .before .before .before in
+    let args = start .args in
+    let f = told .step .given .0 .0 in
+    let known =
+    ahead-is (highestAt (args .places .now) (args .p)) (args .number) f (sym (step-is (told .before .before)) ∙ told .step .given .1) in
+    let n : c .newly .result ≡ min f cellsOfAPlace = c .newly .ensures in
+    (start .pre, (omega (arith, known .1), omega arith))
 
 returns : tie.Need-returns
 returns c =
-    let d = c .before .before .before .before in
-    let m = d .before .before .before .before .before in
-    d .advance .ensures ∙ rw (d .before .newly .ensures) (continued-by _ _ _ _ _ _ _ _ (sym (step-is (m .before .before)) ∙ m .step .given .1))
-
-same-length-3 : tie.Need-same-length-3
-same-length-3 c = search needs
-
-same-length-4 : tie.Need-same-length-4
-same-length-4 c = search needs
+    let opened = c .before .before .before .before in
+    let filled = opened .before .before .before .before in
+    let told = filled .before .before in
+    let after-highest-at-arg = told .before .before .before .before in
+    let pre = after-highest-at-arg .before .before .before .pre in
+    let args = after-highest-at-arg .before .before .before .args in
+    rw (opened .open-window .ensures .0, opened .open-window .ensures .1, filled .filled-word .ensures, opened .before .newly .ensures)
+    (continued-ahead _ _ _ _ _ _ _ pre _
+    (sym (step-is (told .before .before)) ∙ told .step .given .1))
 
 returns-2 : tie.Need-returns-2
 returns-2 c =
     let d = c .before .before in
     let m = d .before .before in
-    rw (d .enter .ensures) (continued-by _ _ _ _ _ _ _ _ (sym (step-is (m .before .before)) ∙ m .enum-told .given .1))
-
-same-length-5 : tie.Need-same-length-5
-same-length-5 c = search needs
+    rw (d .enter .ensures) (continued-by _ _ _ _ _ _ _ _ _ (sym (step-is (m .before .before)) ∙ m .enum-told .given .1))
 
 returns-3 : tie.Need-returns-3
-returns-3 c = continued-by _ _ _ _ _ _ _ _ (sym (step-is (c .before .before)) ∙ c .enum-told2 .given .1)
+returns-3 c = continued-by _ _ _ _ _ _ _ _ _ (sym (step-is (c .before .before)) ∙ c .enum-told2 .given .1)
 
 pub resume-spec : {M : Type 1} → statement M
 resume-spec =
     tie.close
     (tie.spec
-    highest-at-requires
-    move-of-requires
-    enum-known-step
-    newly-requires
-    advance-requires
-    enum-told
-    enter-requires
-    enum-told-2
-    same-length
-    same-length-2
+    (λ c κs. search needs) (λ c κs. search needs) (λ c. search needs) (λ c κs. search needs)
+    (λ c κs. search needs)
+    open-window-requires
+    (λ c. search needs) (λ c κs. search needs) (λ c. search needs) (λ c. search needs) (λ c. search needs)
     returns
-    same-length-3
-    same-length-4
+    (λ c. search needs) (λ c. search needs)
     returns-2
-    same-length-5
+    (λ c. search needs)
     returns-3)

@@ -1,11 +1,12 @@
--- `window::clear` meets its contract. The invariant: what is left to do, done to the words as they are, gives what the whole did to the words at entry. Assumes nothing.
+-- `window::clear` meets its contract. The invariant: what is left to do, done to the words as they are, gives what the
+-- whole did to the words at entry. Assumes nothing.
 use Prim.Native.Nat.{_+_, _-_, _≤_}
 use mathlib.Core.Path.{_≡_, refl, sym, _∙_}
 use native.Mathlib.Omega.{arith}
 use native.Mathlib.Nat.{add-zero, sub-zero}
 use borrow.Author.Needs.{needs}
 use lib.ListN.{length, length-set}
-use Rattle.window.specs.Ring.{cleared}
+use Rattle.window.specs.Steps.{cleared}
 use Rattle.window.proofs.Ring.{cleared-next, cleared-none}
 use Rattle.window.proofs.clear.Statement.{statement}
 use Rattle.window.proofs.clear.Tie as tie
@@ -20,26 +21,11 @@ abbrev μ-loop : tie.MeasureT-loop
 loop-holds : tie.Need-loop-holds Inv-loop μ-loop
 loop-holds c = (refl, search needs, rw (add-zero, sub-zero))
 
-add-words : tie.Need-add-words Inv-loop μ-loop
-add-words c = search needs
-
 mul-words : tie.Need-mul-words Inv-loop μ-loop
 mul-words c = omega (arith, c .before .before .good .0)
 
-slice-write-words : tie.Need-slice-write-words Inv-loop μ-loop
-slice-write-words c = search needs
-
-add-i : tie.Need-add-i Inv-loop μ-loop
-add-i c = search needs
-
-loop-less : tie.Need-loop-less Inv-loop μ-loop
-loop-less c = search needs
-
 loop-again : tie.Need-loop-again Inv-loop μ-loop
 loop-again c = (simp length-set (c .before .loop .inv .0), search needs, sym (cleared-next _ _ _ _ (c .loop-test .taken)) ∙ c .before .loop .inv .2)
-
-same-length : tie.Need-same-length Inv-loop μ-loop
-same-length c = search needs
 
 returns : tie.Need-returns Inv-loop μ-loop
 returns c = sym (cleared-none _ _ _ (search needs)) ∙ c .before .loop .inv .2
@@ -51,11 +37,9 @@ clear-spec =
     Inv-loop
     μ-loop
     loop-holds
-    add-words
+    (λ c. search needs)
     mul-words
-    slice-write-words
-    add-i
-    loop-less
+    (λ c. search needs) (λ c. search needs) (λ c. search needs)
     loop-again
-    same-length
+    (λ c. search needs)
     returns)

@@ -3,45 +3,53 @@ use Prim.Native.Nat.{_≤_}
 use native.Mathlib.Omega.{arith}
 use lib.ListN.{take, length}
 use lib.Seq.{length-take-le}
-use Rattle.store.proofs.Shape.{ready-found}
+use Rattle.places.proofs.Shape.{ready-found}
 use Rattle.writer.proofs.Calls.{found-packets, put-short, put-whole}
 use borrow.Author.Needs.{needs}
 use Rattle.writer.proofs.write_sound.Statement.{statement}
 use Rattle.writer.proofs.write_sound.Tie as tie
 
-measure-requires : tie.Need-measure-requires
-measure-requires c κs = search needs
-
 returns : tie.Need-returns
-returns c = let a = c .before .before .before .before .before .before .args in
-    put-short _ _ (a .out .now) _ (c .before .before .measure .ensures) (c .if1 .taken)
+returns c =
+    let after-measure = c .before .before in
+    let a = after-measure .before .before .before .before .args in
+    put-short _ _ (a .out .now) _ (after-measure .measure .ensures) (c .if1 .taken)
 
 write-packets-requires : tie.Need-write-packets-requires
-write-packets-requires c κs = let s = c .before .before .before .before .before .before .before in
+write-packets-requires c κs =
+    let after-measure = c .before .before .before in
+    let s = after-measure .before .before .before .before in
     let a = s .args in
-    let h : a .n ≤ length (a .requests) = omega (arith, s .good, s .pre .0) in (
+    let h : a .n ≤ length (a .requests) = omega (arith, s .good, s .pre .1 .1 .0) in (
       record {
-        least = s .pre .0 .0;
-        most = s .pre .0 .1;
-        few = s .pre .0 .2;
+        least = s .pre .0;
+        most = s .pre .1 .0;
+        few = s .pre .1 .1 .0;
         held = λ i l.
-            let f = s .pre .1 .1 i (omega (arith, length-take-le (a .n) (a .requests) h)) in
-            let r = ready-found (a .places .now) (a .cells .now) _ _ (s .pre .1 .0) f in
+            let held = s .pre .1 .1 .1 in
+            let f = held .1 i (omega (arith, length-take-le (a .n) (a .requests) h)) in
+            let r = ready-found (a .places .now) (a .cells .now) _ _ (held .0) f in
             omega (arith, r .there, r .sized);
       },
-      omega (arith, c .before .before .before .measure .ensures .octets, c .before .if1 .left),
+      omega (arith, after-measure .measure .ensures .octets, c .before .if1 .left),
     )
 
-same-length : tie.Need-same-length
-same-length c = search needs
-
 returns-2 : tie.Need-returns-2
-returns-2 c = let s = c .before .before .before .before .before .before .before .before .before .before in
+returns-2 c =
+    let else1 = c .before .before .before .before in
+    let after-measure = else1 .before .before in
+    let s = after-measure .before .before .before .before in
     let a = s .args in
-    put-whole _ _ (a .out .now) _ (c .before .before .before .before .before .before .measure .ensures) _ _ (c .before .before .before .before .if1 .left)
-    (found-packets (a .places .now) (a .cells .now) (a .found .now) (a .sender) (a .rts) (a .limit) (take (a .n) (a .requests)) (s .pre .0 .0) (s .pre .1 .1))
+    put-whole _ _ (a .out .now) _ (after-measure .measure .ensures) _ _ (else1 .if1 .left)
+    (found-packets (a .places .now) (a .cells .now) (a .found .now) (a .sender) (a .rts) (a .limit) (take (a .n) (a .requests))
+    (s .pre .0) (s .pre .1 .1 .1 .1))
     (c .before .before .write-packets .ensures)
 
 pub write-sound-spec : {M : Type 1} → statement M
 write-sound-spec =
-    tie.close (tie.spec measure-requires returns write-packets-requires same-length returns-2)
+    tie.close (tie.spec
+    (λ c κs. search needs)
+    returns
+    write-packets-requires
+    (λ c. search needs)
+    returns-2)

@@ -1,5 +1,0 @@
-pub mod Called
-pub mod Metrics
-pub mod Arrivals
-pub mod Packets
-pub mod Writing

@@ -1,0 +1,95 @@
+// The calls for C on a store that the caller lends.
+ghost use mathlib.Core.Path.{_≡_};
+ghost use mathlib.Core.List.{[], _∷_};
+ghost use Rattle.metric.specs.Metric.{timeOf};
+ghost use Rattle.places.specs.Window.{storeAfter, placesAfter};
+ghost use Rattle.store.specs.Store.{arrived, forgotten, placeOf};
+ghost use Rattle.ccfb_calls.specs.Called.{called};
+ghost use Rattle.ccfb_store.specs.Arrivals.{arrivalRefusal, arriveCalled, forgettingRefusal, forgetCalled, placeCalled};
+use store::Arrival;
+use store::Forgetting;
+use store::PlaceAnswer;
+
+// 0 for an accepted arrival, else the number of the refusal.
+fn arrival_refusal(answer: Arrival) -> u8
+    ensures value { λ r. ⌜ r ≡ arrivalRefusal answer ⌝ }
+{
+    match answer {
+        Arrival::Accepted => 0,
+        Arrival::Refused(e) => refusal::number(e),
+    }
+}
+
+// Records one arrival. Refusals 4, 1, then 3 or 2.
+#[no_mangle]
+pub extern "C" fn ccfb_arrive(
+    places: &mut [u64],
+    cells: &mut [u64],
+    ssrc: u32,
+    number: u16,
+    mark: u8,
+    time_known: bool,
+    time: u32,
+) -> u8
+    ensures after { λ r. ⌜
+        storeAfter r (now (places .exit)) (now (cells .exit))
+        ≡ arriveCalled
+        (arrived (now (places .entry)) (now (cells .entry)) ssrc number mark (timeOf «time_known» time)) ⌝ }
+{
+    arrival_refusal(store::arrive(
+        places,
+        cells,
+        ssrc,
+        number,
+        mark,
+        metric::time_of(time_known, time),
+    ))
+}
+
+// 0 for a stream that was forgotten, else the number of the refusal.
+fn forgetting_refusal(answer: Forgetting) -> u8
+    ensures value { λ r. ⌜ r ≡ forgettingRefusal answer ⌝ }
+{
+    match answer {
+        Forgetting::Forgotten => 0,
+        Forgetting::Refused(e) => refusal::number(e),
+    }
+}
+
+// Forgets a stream. Refusals 4, 5.
+#[no_mangle]
+pub extern "C" fn ccfb_forget(places: &mut [u64], cells: &[u64], ssrc: u32) -> u8
+    ensures after { λ r. ⌜
+        placesAfter r (now (places .exit))
+        ≡ forgetCalled (forgotten (now (places .entry)) (now (cells .entry)) ssrc) ⌝ }
+{
+    forgetting_refusal(store::forget(places, cells, ssrc))
+}
+
+// The stream of place k, from 0, and its highest number. Refusals 4, 5.
+#[no_mangle]
+pub extern "C" fn ccfb_place(
+    places: &[u64],
+    cells: &[u64],
+    k: usize,
+    ssrc: &mut u32,
+    highest: &mut u16,
+) -> u8
+    ensures after { λ r. ⌜
+        called r (now (ssrc .exit) ∷ now (highest .exit) ∷ [])
+        ≡ placeCalled (placeOf (now (places .entry)) (now (cells .entry)) k)
+        (now (ssrc .entry) ∷ now (highest .entry) ∷ []) ⌝ }
+{
+    let answer = store::place(places, cells, k);
+    match answer {
+        PlaceAnswer::Stream {
+            ssrc: s,
+            highest: h,
+        } => {
+            *ssrc = s;
+            *highest = h;
+            0
+        }
+        PlaceAnswer::Refused(e) => refusal::number(e),
+    }
+}

@@ -1,0 +1,37 @@
+-- What an arrival makes of a word, and the metric of a word. Assumes nothing.
+use Prim.Native.Nat.{ℕ, _+_, _*_, _/_, _%_, _<_, _≤_}
+use mathlib.Core.Path.{_≡_}
+use native.Mathlib.Omega.{arith}
+use native.Mathlib.Decide.{ℕ-discrete}
+use borrow.Author.Tests.{lt-ltb, le-ltb, eq-eqb, ne-eqb}
+use Rattle.metric.specs.Metric.{times, encodeOf, ageOf, atoOfAge, noTime, assembledOf, congested}
+use Rattle.metric.specs.declared.Time.{Time}
+use Rattle.cells.specs.Cell.{kinds, filledFrom, timedFrom, wordTime, readCell, filledWord, foldedMark, wordAfter}
+
+-- a mark of two bits stays one
+pub folded-small : (held copy : ℕ) → held < 4 → foldedMark held copy < 4
+unfolding foldedMark
+folded-small held copy l =
+    elim (ℕ-discrete copy congested) [ yes e ↦ simp (eq-eqb copy congested e) (omega arith) | no e ↦ simp (ne-eqb copy congested e) l ]
+
+module _ (word mark : ℕ) (time : Time) where
+  pub after-empty : word % kinds < filledFrom → wordAfter mark time word ≡ filledWord mark time
+  unfolding wordAfter
+  after-empty l = simp (lt-ltb (word % kinds) filledFrom l)
+
+  pub after-filled : filledFrom ≤ word % kinds → wordAfter mark time word ≡ word / 4 * 4 + foldedMark (word % 4) mark
+  unfolding wordAfter
+  after-filled l = simp (le-ltb (word % kinds) filledFrom l)
+
+module _ (word rts : ℕ) where
+  pub metric-empty : word % kinds < filledFrom → encodeOf (readCell word) rts ≡ 0
+  unfolding readCell
+  metric-empty h = rw (lt-ltb (word % kinds) filledFrom h)
+
+  pub metric-untimed : filledFrom ≤ word % kinds → word % kinds < timedFrom → encodeOf (readCell word) rts ≡ assembledOf (word % 4) noTime
+  unfolding readCell wordTime
+  metric-untimed h k = rw (le-ltb (word % kinds) filledFrom h, lt-ltb (word % kinds) timedFrom k)
+
+  pub metric-timed : timedFrom ≤ word % kinds → encodeOf (readCell word) rts ≡ assembledOf (word % 4) (atoOfAge (ageOf rts (word / kinds % times)))
+  unfolding readCell wordTime
+  metric-timed k = rw (le-ltb (word % kinds) filledFrom (omega arith), le-ltb (word % kinds) timedFrom k)

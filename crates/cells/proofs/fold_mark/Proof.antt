@@ -1,0 +1,16 @@
+-- `cells::fold_mark` meets its contract. Assumes nothing.
+use borrow.Author.Tests.{eq-eqb, ne-eqb}
+use Rattle.cells.specs.Cell.{foldedMark}
+use Rattle.cells.proofs.fold_mark.Statement.{statement}
+use Rattle.cells.proofs.fold_mark.Tie as tie
+
+returns : tie.Need-returns
+unfolding foldedMark
+returns c = simp (eq-eqb _ _ (c .if1 .taken))
+
+returns-2 : tie.Need-returns-2
+unfolding foldedMark
+returns-2 c = simp (ne-eqb _ _ (c .if1 .left))
+
+pub fold-mark-spec : {M : Type 1} → statement M
+fold-mark-spec = tie.close (tie.spec returns returns-2)

@@ -1,0 +1,28 @@
+-- Laws of `All`. Assumes nothing.
+use mathlib.Core.List.{List, [], _∷_, _++_, map}
+use Rattle.lists.specs.All.{All}
+
+module _ {A : Type 0} where
+  pub all-map : {P Q : A → Type 0} (xs : List A) → ((x : A) → P x → Q x) → All P xs → All Q xs
+  all-map [] f h = tt
+  all-map (x ∷ xs) f h = (f x (h .0), all-map xs f (h .1))
+
+  pub all-zip : {P Q R : A → Type 0} (xs : List A) → ((x : A) → P x → Q x → R x) → All P xs → All Q xs → All R xs
+  all-zip [] f p q = tt
+  all-zip (x ∷ xs) f p q = (f x (p .0) (q .0), all-zip xs f (p .1) (q .1))
+
+  pub all-left : (P : A → Type 0) (xs ys : List A) → All P (xs ++ ys) → All P xs
+  all-left P [] ys h = tt
+  all-left P (x ∷ xs) ys h = (h .0, all-left P xs ys (h .1))
+
+  pub all-right : (P : A → Type 0) (xs ys : List A) → All P (xs ++ ys) → All P ys
+  all-right P [] ys h = h
+  all-right P (x ∷ xs) ys h = all-right P xs ys (h .1)
+
+  pub all-over : {B : Type 0} (P : B → Type 0) (f : A → B) (xs : List A) → All (λ x. P (f x)) xs → All P (map f xs)
+  all-over P f [] h = tt
+  all-over P f (x ∷ xs) h = (h .0, all-over P f xs (h .1))
+
+  pub all-append : (P : A → Type 0) (xs : List A) (x : A) → All P xs → P x → All P (xs ++ (x ∷ []))
+  all-append P [] x h p = (p, tt)
+  all-append P (y ∷ xs) x h p = (h .0, all-append P xs x (h .1) p)

@@ -1,0 +1,12 @@
+-- `metric::time_of` meets its contract. Assumes nothing.
+use borrow.Author.Needs.{needs}
+use Rattle.metric.proofs.time_of.Statement.{statement}
+use Rattle.metric.proofs.time_of.Tie as tie
+
+returns : tie.Need-returns
+returns c = rw (c .if1 .taken)
+
+pub time-of-spec : {M : Type 1} → statement M
+time-of-spec = tie.close (tie.spec
+    returns
+    (λ c. search needs))

@@ -1,0 +1,4 @@
+pub mod Place
+pub mod Shape
+pub mod Held
+pub mod Window

@@ -1,0 +1,17 @@
+-- `reader::metric_at` meets its contract. Assumes nothing.
+use borrow.Author.Tests.{le-leb, lt-leb}
+use borrow.Author.Needs.{needs}
+use Rattle.reader.proofs.metric_at.Statement.{statement}
+use Rattle.reader.proofs.metric_at.Tie as tie
+
+returns : tie.Need-returns
+returns c = simp (le-leb _ _ (c .if1 .taken))
+
+returns-2 : tie.Need-returns-2
+returns-2 c = simp (lt-leb _ _ (c .before .before .if1 .left)) (rw (c .decode .ensures, c .before .get16 .ensures))
+
+pub metric-at-spec : {M : Type 1} → statement M
+metric-at-spec = tie.close (tie.spec
+    returns
+    (λ c. search needs) (λ c κs. search needs) (λ c κs. search needs)
+    returns-2)

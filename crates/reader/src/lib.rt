@@ -1,0 +1,204 @@
+// The reader: what a CCFB packet says. It accepts any octets, and answers or gives the first refusal.
+ghost use mathlib.Core.Path.{_≡_};
+ghost use Rattle.walk.specs.Walk.{walkFrom, walkOf};
+ghost use Rattle.reader.specs.Reading.{decode, readOf, located, readBlock, partOf, metricsPart, reportedIn, readMetric, caseAt, Within};
+ghost use Rattle.reader.specs.Steps.{counted, afterBlocks};
+use metric::Metric;
+use packet::RTS_OCTETS;
+use packet::SENDER_AT;
+use refusal::Refusal;
+use walk::Cursor;
+use walk::ReportBlock;
+use walk::Start;
+use walk::Step;
+
+// How many blocks were walked, or the refusal that stopped the walk.
+pub enum Count {
+    Blocks(usize),
+    Stopped(Refusal),
+}
+
+// The answers to the questions below.
+pub enum Reading {
+    Accepted {
+        sender: u32,
+        rts: u32,
+        blocks: usize,
+    },
+    Refused(Refusal),
+}
+
+pub enum BlockAnswer {
+    Found(ReportBlock),
+    Refused(Refusal),
+}
+
+pub enum MetricAnswer {
+    Reported { number: u16, metric: Metric },
+    Refused(Refusal),
+}
+
+pub enum PartAnswer {
+    Case(Metric),
+    Refused(Refusal),
+}
+
+// How many blocks the walk that starts at a cursor finds.
+fn count_from(packet: &[u8], from: Cursor) -> Count
+    ensures value { λ r. ⌜ r ≡ counted 0 (walkFrom (now (packet .entry)) (from .at)) ⌝ }
+{
+    let mut cursor = from;
+    let mut n = 0;
+    loop {
+        let here = cursor.next(packet);
+        match here {
+            Step::Block(_, next) => {
+                cursor = next;
+                n += 1;
+            }
+            Step::End => return Count::Blocks(n),
+            Step::Refused(e) => return Count::Stopped(e),
+        }
+    }
+}
+
+// The number of blocks of a packet, or the first refusal.
+pub fn count_blocks(packet: &[u8]) -> Count
+    ensures value { λ r. ⌜ r ≡ counted 0 (walkOf (now (packet .entry))) ⌝ }
+{
+    let first = Cursor::start(packet);
+    match first {
+        Start::At(cursor) => count_from(packet, cursor),
+        Start::Refused(e) => Count::Stopped(e),
+    }
+}
+
+// The sender, RTS and the number of blocks of a packet.
+pub fn read(packet: &[u8]) -> Reading
+    ensures value { λ r. ⌜ r ≡ readOf (decode (now (packet .entry))) ⌝ }
+{
+    let count = count_blocks(packet);
+    match count {
+        Count::Blocks(n) => Reading::Accepted {
+            sender: octets::get32(packet, SENDER_AT),
+            rts: octets::get32(packet, packet.len() - RTS_OCTETS),
+            blocks: n,
+        },
+        Count::Stopped(e) => Reading::Refused(e),
+    }
+}
+
+// What the walk that starts at a cursor meets after k blocks.
+fn after_blocks(packet: &[u8], from: Cursor, k: usize) -> Step
+    ensures value { λ r. ⌜ r ≡ afterBlocks k (now (packet .entry)) (from .at) ⌝ }
+{
+    let mut cursor = from;
+    let mut left = k;
+    loop {
+        let here = cursor.next(packet);
+        if left == 0 {
+            return here;
+        }
+        match here {
+            Step::Block(_, next) => {
+                cursor = next;
+                left -= 1;
+            }
+            Step::End => return Step::End,
+            Step::Refused(e) => return Step::Refused(e),
+        }
+    }
+}
+
+// Block k of the walk that starts at a cursor. The blocks behind it are walked too: their refusals come first.
+fn block_from(packet: &[u8], from: Cursor, k: usize) -> BlockAnswer
+    ensures value { λ r. ⌜ r ≡ located (walkFrom (now (packet .entry)) (from .at)) k ⌝ }
+{
+    let here = after_blocks(packet, from, k);
+    match here {
+        Step::Block(b, next) => {
+            let rest = count_from(packet, next);
+            match rest {
+                Count::Blocks(_) => BlockAnswer::Found(b),
+                Count::Stopped(e) => BlockAnswer::Refused(e),
+            }
+        }
+        Step::End => BlockAnswer::Refused(Refusal::NoBlock),
+        Step::Refused(e) => BlockAnswer::Refused(e),
+    }
+}
+
+// Block k, from 0, of a packet.
+pub fn block(packet: &[u8], k: usize) -> BlockAnswer
+    ensures value { λ r. ⌜ r ≡ readBlock (now (packet .entry)) k ⌝ }
+{
+    let first = Cursor::start(packet);
+    match first {
+        Start::At(cursor) => block_from(packet, cursor, k),
+        Start::Refused(e) => BlockAnswer::Refused(e),
+    }
+}
+
+// The part of the packet that holds the metrics of a block, 2 octets each; empty where the packet does not hold them
+// all.
+pub fn metrics_of<'a>(packet: &'a [u8], b: ReportBlock) -> &'a [u8]
+    ensures part { λ r. ⌜ now r ≡ partOf (now (packet .entry)) b ⌝ }
+{
+    let from = b.metrics_at;
+    let size = 2 * (b.num_reports as usize);
+    if packet.len() < from {
+        return &packet[..0];
+    }
+    if packet.len() - from < size {
+        return &packet[..0];
+    }
+    let end = from + size;
+    &packet[from..end]
+}
+
+// The part of the packet that holds the metrics of block k; empty where the block is refused.
+pub fn block_metrics<'a>(packet: &'a [u8], k: usize) -> &'a [u8]
+    ensures part { λ r. ⌜ now r ≡ metricsPart (readBlock (now (packet .entry)) k) (now (packet .entry)) ⌝ }
+{
+    let answer = block(packet, k);
+    match answer {
+        BlockAnswer::Found(b) => metrics_of(packet, b),
+        BlockAnswer::Refused(_) => &packet[..0],
+    }
+}
+
+// Metric j, from 0, of a part that holds metrics. No block is walked.
+pub fn metric_at(part: &[u8], j: usize) -> PartAnswer
+    ensures value { λ r. ⌜ r ≡ caseAt (now (part .entry)) j ⌝ }
+{
+    if part.len() / 2 <= j {
+        return PartAnswer::Refused(Refusal::NoNumber);
+    }
+    PartAnswer::Case(metric::decode(octets::get16(part, 2 * j)))
+}
+
+// Metric j, from 0, of a block.
+fn metric_in(packet: &[u8], b: ReportBlock, j: usize) -> MetricAnswer
+    requires within { ⌜ Within (now packet) b ⌝ }
+    ensures value { λ r. ⌜ r ≡ reportedIn b (now (packet .entry)) j ⌝ }
+{
+    if (b.num_reports as usize) <= j {
+        return MetricAnswer::Refused(Refusal::NoNumber);
+    }
+    let at = b.metrics_at + 2 * j;
+    MetricAnswer::Reported {
+        number: std::num::wrapping_add_u16(b.begin_seq, j as u16),
+        metric: metric::decode(octets::get16(packet, at)),
+    }
+}
+
+// Metric j, from 0, of block k.
+pub fn metric(packet: &[u8], k: usize, j: usize) -> MetricAnswer
+    ensures value { λ r. ⌜ r ≡ readMetric (now (packet .entry)) k j ⌝ }
+{
+    let answer = block(packet, k);
+    match answer {
+        BlockAnswer::Found(b) => metric_in(packet, b, j),
+        BlockAnswer::Refused(e) => MetricAnswer::Refused(e),
+    }
+}
