@@ -6,7 +6,7 @@ use native.Mathlib.Decide.{ℕ-discrete}
 use borrow.Author.Tests.{lt-ltb, le-ltb, eq-eqb, ne-eqb}
 use Rattle.metric.specs.Metric.{times, encodeOf, ageOf, atoOfAge, noTime, assembledOf, congested}
 use Rattle.metric.specs.declared.Time.{Time}
-use Rattle.cells.specs.Cell.{kinds, filledFrom, timedFrom, wordTime, readCell, filledWord, foldedMark, wordAfter}
+use Rattle.cells.specs.Cell.{kinds, leastFilled, leastTimed, wordTime, readCell, filledWord, foldedMark, wordAfter}
 
 -- a mark of two bits stays one
 pub folded-small : (held copy : ℕ) → held < 4 → foldedMark held copy < 4
@@ -15,23 +15,23 @@ folded-small held copy l =
     elim (ℕ-discrete copy congested) [ yes e ↦ simp (eq-eqb copy congested e) (omega arith) | no e ↦ simp (ne-eqb copy congested e) l ]
 
 module _ (word mark : ℕ) (time : Time) where
-  pub after-empty : word % kinds < filledFrom → wordAfter mark time word ≡ filledWord mark time
+  pub after-empty : word % kinds < leastFilled → wordAfter mark time word ≡ filledWord mark time
   unfolding wordAfter
-  after-empty l = simp (lt-ltb (word % kinds) filledFrom l)
+  after-empty l = simp (lt-ltb (word % kinds) leastFilled l)
 
-  pub after-filled : filledFrom ≤ word % kinds → wordAfter mark time word ≡ word / 4 * 4 + foldedMark (word % 4) mark
+  pub after-filled : leastFilled ≤ word % kinds → wordAfter mark time word ≡ word / 4 * 4 + foldedMark (word % 4) mark
   unfolding wordAfter
-  after-filled l = simp (le-ltb (word % kinds) filledFrom l)
+  after-filled l = simp (le-ltb (word % kinds) leastFilled l)
 
 module _ (word rts : ℕ) where
-  pub metric-empty : word % kinds < filledFrom → encodeOf (readCell word) rts ≡ 0
+  pub metric-empty : word % kinds < leastFilled → encodeOf (readCell word) rts ≡ 0
   unfolding readCell
-  metric-empty h = rw (lt-ltb (word % kinds) filledFrom h)
+  metric-empty h = rw (lt-ltb (word % kinds) leastFilled h)
 
-  pub metric-untimed : filledFrom ≤ word % kinds → word % kinds < timedFrom → encodeOf (readCell word) rts ≡ assembledOf (word % 4) noTime
+  pub metric-untimed : leastFilled ≤ word % kinds → word % kinds < leastTimed → encodeOf (readCell word) rts ≡ assembledOf (word % 4) noTime
   unfolding readCell wordTime
-  metric-untimed h k = rw (le-ltb (word % kinds) filledFrom h, lt-ltb (word % kinds) timedFrom k)
+  metric-untimed h k = rw (le-ltb (word % kinds) leastFilled h, lt-ltb (word % kinds) leastTimed k)
 
-  pub metric-timed : timedFrom ≤ word % kinds → encodeOf (readCell word) rts ≡ assembledOf (word % 4) (atoOfAge (ageOf rts (word / kinds % times)))
+  pub metric-timed : leastTimed ≤ word % kinds → encodeOf (readCell word) rts ≡ assembledOf (word % 4) (atoOfAge (ageOf rts (word / kinds % times)))
   unfolding readCell wordTime
-  metric-timed k = rw (le-ltb (word % kinds) filledFrom (omega arith), le-ltb (word % kinds) timedFrom k)
+  metric-timed k = rw (le-ltb (word % kinds) leastFilled (omega arith), le-ltb (word % kinds) leastTimed k)

@@ -16,25 +16,25 @@ use Rattle.metric.specs.declared.Cell.the-variants.{Empty, Filled}
 abbrev pub kinds : ℕ
 kinds = 16
 
-abbrev pub filledFrom : ℕ
-filledFrom = 8
+abbrev pub leastFilled : ℕ
+leastFilled = 8
 
-abbrev pub timedFrom : ℕ
-timedFrom = 12
+abbrev pub leastTimed : ℕ
+leastTimed = 12
 
 -- ---- reading
 
 unfoldable pub wordTime : ℕ → Time
-wordTime word = cond (ltb (word % kinds) timedFrom) Unknown (Known (word / kinds % times))
+wordTime word = cond (ltb (word % kinds) leastTimed) Unknown (Known (word / kinds % times))
 
 unfoldable pub readCell : ℕ → Cell
-readCell word = cond (ltb (word % kinds) filledFrom) Empty (Filled (word % 4) (wordTime word))
+readCell word = cond (ltb (word % kinds) leastFilled) Empty (Filled (word % 4) (wordTime word))
 
 -- ---- an accepted arrival
 
 abbrev pub filledWord : ℕ → Time → ℕ
-filledWord mark Unknown = filledFrom + mark
-filledWord mark (Known t) = timedFrom + mark + kinds * t
+filledWord mark Unknown = leastFilled + mark
+filledWord mark (Known t) = leastTimed + mark + kinds * t
 
 -- the mark of a filled cell after a copy: ECN-CE if the copy carries it, else as it was
 unfoldable pub foldedMark : ℕ → ℕ → ℕ
@@ -43,4 +43,4 @@ foldedMark held copy = cond (eqb copy congested) congested held
 -- an arrival at an empty cell fills it; at a filled cell it is a copy: the time stays, and the mark is folded
 unfoldable pub wordAfter : ℕ → Time → ℕ → ℕ
 wordAfter mark time word =
-    cond (ltb (word % kinds) filledFrom) (filledWord mark time) (word / 4 * 4 + foldedMark (word % 4) mark)
+    cond (ltb (word % kinds) leastFilled) (filledWord mark time) (word / 4 * 4 + foldedMark (word % 4) mark)

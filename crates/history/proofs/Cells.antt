@@ -13,7 +13,7 @@ use Rattle.metric.specs.Metric.{TimeInRange, congested, times}
 use Rattle.window.specs.Ring.{cellsOfAPlace}
 use Rattle.window.proofs.Ring.{emptied-kept, emptied-gone, length-emptied}
 use Rattle.places.specs.Window.{cellAt, newestEmptied, updated}
-use Rattle.cells.specs.Cell.{wordTime, readCell, filledWord, foldedMark, wordAfter, filledFrom, kinds, timedFrom}
+use Rattle.cells.specs.Cell.{wordTime, readCell, filledWord, foldedMark, wordAfter, leastFilled, kinds, leastTimed}
 use Rattle.cells.proofs.Words.{folded-small, after-empty, after-filled}
 use Rattle.history.specs.Meaning.{Entry, cellBy}
 use Rattle.history.proofs.Numbers.{same-slot, apart, counted, uncounted, other-place}
@@ -24,41 +24,41 @@ use Rattle.metric.specs.declared.Cell.the-variants.{Empty, Filled}
 
 -- ---- one cell
 module _ (word : ℕ) where
-  read-empty : word % kinds < filledFrom → readCell word ≡ Empty
+  read-empty : word % kinds < leastFilled → readCell word ≡ Empty
   unfolding readCell
-  read-empty l = simp (lt-ltb (word % kinds) filledFrom l)
+  read-empty l = simp (lt-ltb (word % kinds) leastFilled l)
 
-  read-filled : filledFrom ≤ word % kinds → readCell word ≡ Filled (word % 4) (wordTime word)
+  read-filled : leastFilled ≤ word % kinds → readCell word ≡ Filled (word % 4) (wordTime word)
   unfolding readCell
-  read-filled l = simp (le-ltb (word % kinds) filledFrom l)
+  read-filled l = simp (le-ltb (word % kinds) leastFilled l)
 
-  time-unknown : word % kinds < timedFrom → wordTime word ≡ Unknown
+  time-unknown : word % kinds < leastTimed → wordTime word ≡ Unknown
   unfolding wordTime
-  time-unknown l = simp (lt-ltb (word % kinds) timedFrom l)
+  time-unknown l = simp (lt-ltb (word % kinds) leastTimed l)
 
-  time-known : timedFrom ≤ word % kinds → wordTime word ≡ Known (word / kinds % times)
+  time-known : leastTimed ≤ word % kinds → wordTime word ≡ Known (word / kinds % times)
   unfolding wordTime
-  time-known l = simp (le-ltb (word % kinds) timedFrom l)
+  time-known l = simp (le-ltb (word % kinds) leastTimed l)
 
 pub read-zero : readCell 0 ≡ Empty
 read-zero = read-empty 0 (omega arith)
 
 pub read-word : (mark : ℕ) (time : Time) → mark ≤ congested → TimeInRange time → readCell (filledWord mark time) ≡ Filled mark time
 read-word mark Unknown m r =
-    let a : (filledFrom + mark) % 4 ≡ mark = omega arith in
-    rw (read-filled (filledFrom + mark) (omega arith), time-unknown (filledFrom + mark) (omega arith), a)
+    let a : (leastFilled + mark) % 4 ≡ mark = omega arith in
+    rw (read-filled (leastFilled + mark) (omega arith), time-unknown (leastFilled + mark) (omega arith), a)
 read-word mark (Known t) m r =
-    let a : (timedFrom + mark + kinds * t) % 4 ≡ mark = omega arith in
-    let q : (timedFrom + mark + kinds * t) / kinds ≡ t = omega arith in
+    let a : (leastTimed + mark + kinds * t) % 4 ≡ mark = omega arith in
+    let q : (leastTimed + mark + kinds * t) / kinds ≡ t = omega arith in
     let b : t % times ≡ t = omega arith in
-    rw (read-filled (timedFrom + mark + kinds * t) (omega arith), time-known (timedFrom + mark + kinds * t) (omega arith), a, q, b)
+    rw (read-filled (leastTimed + mark + kinds * t) (omega arith), time-known (leastTimed + mark + kinds * t) (omega arith), a, q, b)
 
 -- another mark leaves the time
-read-marked : (word mark : ℕ) → filledFrom ≤ word % kinds → mark < 4 → readCell (word / 4 * 4 + mark) ≡ Filled mark (wordTime word)
+read-marked : (word mark : ℕ) → leastFilled ≤ word % kinds → mark < 4 → readCell (word / 4 * 4 + mark) ≡ Filled mark (wordTime word)
 read-marked word mark l m =
     let a : (word / 4 * 4 + mark) % 4 ≡ mark = omega arith in
     let d : (word / 4 * 4 + mark) / kinds ≡ word / kinds = omega arith in
-    elim (decLt (word % kinds) timedFrom) [
+    elim (decLt (word % kinds) leastTimed) [
       | yes k ↦ rw (read-filled (word / 4 * 4 + mark) (omega arith), time-unknown (word / 4 * 4 + mark) (omega arith), time-unknown word k, a)
       | no k ↦ rw (read-filled (word / 4 * 4 + mark) (omega arith), time-known (word / 4 * 4 + mark) (omega arith), time-known word (omega arith), a, d)
     ]
@@ -66,7 +66,7 @@ read-marked word mark l m =
 -- a word of any content after an arrival
 pub read-after : (word mark : ℕ) (time : Time) → mark ≤ congested → TimeInRange time → readCell (wordAfter mark time word) ≡ afterCopy (readCell word) mark time
 read-after word mark time m r =
-    elim (decLt (word % kinds) filledFrom) [
+    elim (decLt (word % kinds) leastFilled) [
       | yes l ↦ rw (after-empty word mark time l, read-empty word l) (read-word mark time m r)
       | no l ↦
           rw (after-filled word mark time (omega arith), read-filled word (omega arith))
