@@ -11,13 +11,14 @@ use lib.Seq.{getD-take, drop-drop}
 use Rattle.refusal.specs.declared.Refusal.the-variants.{RecordCutShort, BadRecord}
 use Rattle.lists.proofs.Cases.{never, split-le, split-eq}
 use Rattle.octets.specs.Octets.{be16, be32}
-use Rattle.arrival_file.specs.File.{isFaulty, recordOf, Result, sound, faulty, recordFirst, recordsOf, fileOf, fileHeaderOctets, fileVersion, recordOctets}
-use Rattle.arrival_file.specs.Faults.{magic, FaultyRecord, SoundBefore, RecordsGive, Gives}
-use Rattle.arrival_file.specs.declared.Record.{Record}
-use Rattle.arrival_file.proofs.Headers.{too-short, wrong-a, wrong-r, wrong-l, wrong-version, sound-header}
-use Rattle.arrival_file.proofs.Entries.{bad-record, sound-record}
 use Rattle.metric.specs.Metric.{congested}
-use Rattle.arrival_file.specs.declared.RecordRead.the-variants as entry
+use Rattle.arrival_record.specs.Record.{isFaulty, recordOf, recordOctets}
+use Rattle.arrival_record.specs.declared.Record.{Record}
+use Rattle.arrival_record.proofs.Cases.{bad-record, sound-record}
+use Rattle.arrival_file.specs.File.{Result, sound, faulty, recordFirst, recordsOf, fileOf, fileHeaderOctets, fileVersion}
+use Rattle.arrival_file.specs.Faults.{magic, FaultyRecord, SoundBefore, RecordsGive, Gives}
+use Rattle.arrival_file.proofs.Headers.{too-short, wrong-a, wrong-r, wrong-l, wrong-version, sound-header}
+use Rattle.arrival_record.specs.declared.RecordRead.the-variants as entry
 
 -- ---- a record
 

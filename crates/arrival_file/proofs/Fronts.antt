@@ -6,7 +6,8 @@ use native.Mathlib.Omega.{arith}
 use borrow.Author.Tests.{le-ltb}
 use lib.ListN.{length, getD, length-append, List·getD-append}
 use Rattle.octets.specs.Octets.{be16, be32}
-use Rattle.arrival_file.specs.File.{headerOf, recordReadOf, fileHeaderOctets, recordOctets}
+use Rattle.arrival_record.specs.Record.{recordReadOf, recordOctets}
+use Rattle.arrival_file.specs.File.{headerOf, fileHeaderOctets}
 
 module _ (s t : List ℕ) where
   front : (i : ℕ) → i < length s → getD (s ++ t) i 0 ≡ getD s i 0

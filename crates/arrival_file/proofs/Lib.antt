@@ -1,5 +1,4 @@
 pub mod Headers
-pub mod Entries
 pub mod Fronts
 pub mod Pieces
 pub mod Faults

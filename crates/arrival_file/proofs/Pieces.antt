@@ -10,16 +10,17 @@ use lib.Dec.{eqb}
 use lib.Seq.{drop-append-le}
 use Rattle.lists.proofs.Cases.{split-le}
 use Rattle.refusal.specs.declared.Refusal.{Refusal}
-use Rattle.arrival_file.specs.File.{headerOf, recordReadOf, Result, sound, faulty, recordFirst, recordsOf, behind, fileOf, fileHeaderOctets, recordOctets}
+use Rattle.arrival_record.specs.Record.{recordReadOf, recordOctets}
+use Rattle.arrival_record.specs.declared.Record.{Record}
+use Rattle.arrival_record.specs.declared.RecordRead.{RecordRead}
+use Rattle.arrival_file.specs.File.{headerOf, Result, sound, faulty, recordFirst, recordsOf, behind, fileOf, fileHeaderOctets}
 use Rattle.arrival_file.specs.Pieces.{Feeding, starting, resultOf, ended, onEntry, taken, takenBehind, takenHere, fed, allTaken}
-use Rattle.arrival_file.specs.declared.Record.{Record}
-use Rattle.arrival_file.specs.declared.RecordRead.{RecordRead}
 use Rattle.arrival_file.specs.declared.Check.{Check}
 use Rattle.arrival_file.specs.declared.Phase.{Phase}
 use Rattle.arrival_file.proofs.Fronts.{header-front, entry-front}
 use Rattle.arrival_file.proofs.Headers.{too-short}
 use Rattle.refusal.specs.declared.Refusal.the-variants.{RecordCutShort}
-use Rattle.arrival_file.specs.declared.RecordRead.the-variants as entry
+use Rattle.arrival_record.specs.declared.RecordRead.the-variants as entry
 use Rattle.arrival_file.specs.declared.Check.the-variants.{Sound, Refused}
 use Rattle.arrival_file.specs.declared.Phase.the-variants.{Header, Records, Faulty}
 

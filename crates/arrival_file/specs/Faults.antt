@@ -6,9 +6,10 @@ use mathlib.Core.Logic.{_≢_}
 use mathlib.Core.List.{List, [], _∷_}
 use lib.ListN.{length, getD, take, drop}
 use Rattle.octets.specs.Octets.{be16, be32}
-use Rattle.arrival_file.specs.File.{fileHeaderOctets, fileVersion, recordOctets, recordOf, Result, sound, faulty}
-use Rattle.arrival_file.specs.declared.Record.{Record}
 use Rattle.metric.specs.Metric.{congested}
+use Rattle.arrival_record.specs.Record.{recordOctets, recordOf}
+use Rattle.arrival_record.specs.declared.Record.{Record}
+use Rattle.arrival_file.specs.File.{fileHeaderOctets, fileVersion, Result, sound, faulty}
 use Rattle.refusal.specs.declared.Refusal.the-variants.{BadFileMark, BadFileVersion, RecordCutShort, BadRecord}
 
 -- `ARL`

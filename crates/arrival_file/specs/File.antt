@@ -1,21 +1,20 @@
 -- The arrival file, which ccfbline reads. Any octets give the records of the file, or its first fault.
---   header   3 octets `ARL`, 2 octets version 1
---   record   4 octets SSRC, 2 octets sequence number, 1 octet ECN mark, 1 octet flag, 4 octets time
--- The flag is 1 where the time is known; where it is not, flag and time are 0. Numbers are big-endian.
+--   header    3 octets `ARL`, 2 octets version 1, big-endian
+--   records   12 octets each (arrival_record/specs/Record.antt)
 use Prim.Native.Nat.{ℕ, zero, suc, _/_}
-use mathlib.Core.Bool.{Bool, cond, not, _&&_, _||_}
+use mathlib.Core.Bool.{Bool, cond, _&&_}
 use mathlib.Core.List.{List, [], _∷_}
 use lib.ListN.{length, getD, drop}
 use lib.Dec.{eqb, ltb}
 use Rattle.refusal.specs.declared.Refusal.{Refusal}
-use Rattle.octets.specs.Octets.{be16, be32}
-use Rattle.metric.specs.Metric.{congested, timeOf}
-use Rattle.arrival_file.specs.declared.Record.{Record}
-use Rattle.arrival_file.specs.declared.RecordRead.{RecordRead}
+use Rattle.octets.specs.Octets.{be16}
+use Rattle.arrival_record.specs.declared.Record.{Record}
+use Rattle.arrival_record.specs.declared.RecordRead.{RecordRead}
+use Rattle.arrival_record.specs.Record.{recordReadOf, recordOctets}
 use Rattle.arrival_file.specs.declared.Check.{Check}
 use Rattle.arrival_file.specs.declared.Phase.{Phase}
-use Rattle.refusal.specs.declared.Refusal.the-variants.{BadFileMark, BadFileVersion, RecordCutShort, BadRecord}
-use Rattle.arrival_file.specs.declared.RecordRead.the-variants as entry
+use Rattle.refusal.specs.declared.Refusal.the-variants.{BadFileMark, BadFileVersion, RecordCutShort}
+use Rattle.arrival_record.specs.declared.RecordRead.the-variants as entry
 use Rattle.arrival_file.specs.declared.Check.the-variants.{Sound, Refused}
 use Rattle.arrival_file.specs.declared.Phase.the-variants.{Header, Records, Faulty}
 
@@ -36,25 +35,6 @@ unfoldable pub headerOf : List ℕ → Check
 headerOf s =
     cond (ltb (length s) fileHeaderOctets) (Refused BadFileMark)
     (cond (hasMagic s) (cond (eqb (be16 s 3) fileVersion) Sound (Refused BadFileVersion)) (Refused BadFileMark))
-
--- ---- a record
-
-abbrev pub recordOctets : ℕ
-recordOctets = 12
-
--- a mark above 3, a flag above 1, or a time where the flag says that there is none
-unfoldable pub isFaulty : ℕ → ℕ → ℕ → Bool
-isFaulty mark flag time = ltb congested mark || (ltb 1 flag || (eqb flag 0 && not (eqb time 0)))
-
--- the record at the front of some octets
-abbrev pub recordOf : List ℕ → Record
-recordOf s = record { ssrc = be32 s 0; number = be16 s 4; mark = getD s 6 0; time = timeOf (not (eqb (getD s 7 0) 0)) (be32 s 8) }
-
--- refusals 13, 14: a cut record is 13 whatever its octets
-unfoldable pub recordReadOf : List ℕ → RecordRead
-recordReadOf s =
-    cond (ltb (length s) recordOctets) (entry.Refused RecordCutShort)
-    (cond (isFaulty (getD s 6 0) (getD s 7 0) (be32 s 8)) (entry.Refused BadRecord) (entry.Record (recordOf s)))
 
 -- ---- the file
 

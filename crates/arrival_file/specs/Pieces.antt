@@ -5,12 +5,13 @@ use mathlib.Core.Bool.{cond}
 use mathlib.Core.List.{List, [], _++_, foldl}
 use lib.ListN.{length, drop}
 use lib.Dec.{ltb}
-use Rattle.arrival_file.specs.File.{fileHeaderOctets, recordOctets, headerOf, recordReadOf, endOf, Result, sound, faulty}
-use Rattle.arrival_file.specs.declared.Record.{Record}
-use Rattle.arrival_file.specs.declared.RecordRead.{RecordRead}
+use Rattle.arrival_record.specs.Record.{recordOctets, recordReadOf}
+use Rattle.arrival_record.specs.declared.Record.{Record}
+use Rattle.arrival_record.specs.declared.RecordRead.{RecordRead}
+use Rattle.arrival_file.specs.File.{fileHeaderOctets, headerOf, endOf, Result, sound, faulty}
 use Rattle.arrival_file.specs.declared.Check.{Check}
 use Rattle.arrival_file.specs.declared.Phase.{Phase}
-use Rattle.arrival_file.specs.declared.RecordRead.the-variants as entry
+use Rattle.arrival_record.specs.declared.RecordRead.the-variants as entry
 use Rattle.arrival_file.specs.declared.Check.the-variants.{Sound, Refused}
 use Rattle.arrival_file.specs.declared.Phase.the-variants.{Header, Records, Faulty}
 

@@ -3,13 +3,13 @@
 use Prim.Native.Nat.{ℕ, _*_}
 use mathlib.Core.List.{List, [], _∷_}
 use Rattle.refusal.specs.Numbers.{numberOf}
+use Rattle.reports.specs.declared.MetricAnswer.{MetricAnswer}
 use Rattle.reader.specs.declared.Reading.{Reading}
 use Rattle.reader.specs.declared.BlockAnswer.{BlockAnswer}
-use Rattle.reader.specs.declared.MetricAnswer.{MetricAnswer}
 use Rattle.ccfb_calls.specs.Called.{Called, called, refusedWith, caseBehind}
 use Rattle.reader.specs.declared.Reading.the-variants as reading
 use Rattle.reader.specs.declared.BlockAnswer.the-variants as block
-use Rattle.reader.specs.declared.MetricAnswer.the-variants as metric
+use Rattle.reports.specs.declared.MetricAnswer.the-variants as metric
 
 -- `ccfb_read`: sender, RTS, number of blocks
 abbrev pub readCalled : Reading → List ℕ → Called

@@ -5,8 +5,8 @@ ghost use Rattle.reader.specs.Reading.{decode, readOf, readBlock, readMetric};
 ghost use Rattle.ccfb_calls.specs.Called.{called};
 ghost use Rattle.ccfb_reader.specs.Packets.{readCalled, blockCalled, partCalled, metricCalled};
 use reader::BlockAnswer;
-use reader::MetricAnswer;
 use reader::Reading;
+use reports::MetricAnswer;
 
 // The sender, RTS and the number of blocks. Refusals 21 to 28.
 #[no_mangle]

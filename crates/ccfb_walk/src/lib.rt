@@ -2,11 +2,11 @@
 ghost use mathlib.Core.Path.{_≡_};
 ghost use mathlib.Core.List.{[], _∷_};
 ghost use Rattle.walk.specs.Walk.{startOf, stepAt};
-ghost use Rattle.reader.specs.Reading.{caseAt};
+ghost use Rattle.reports.specs.Reports.{caseAt};
 ghost use Rattle.ccfb_calls.specs.Called.{called};
 ghost use Rattle.ccfb_walk.specs.Walk.{metricAtCalled, firstCalled, nextCalled};
-use reader::PartAnswer;
 use refusal::Refusal;
+use reports::PartAnswer;
 use walk::Cursor;
 use walk::Start;
 use walk::Step;
@@ -73,7 +73,7 @@ pub extern "C" fn ccfb_metric_at(
         ≡ metricAtCalled (caseAt (now (part .entry)) j)
         (now (case .entry)) (now (mark .entry)) (now (offset .entry)) ⌝ }
 {
-    let answer = reader::metric_at(part, j);
+    let answer = reports::metric_at(part, j);
     match answer {
         PartAnswer::Case(m) => {
             *case = ccfb_calls::put_case(m, mark, offset);

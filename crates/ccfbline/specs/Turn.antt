@@ -1,7 +1,7 @@
 -- What a turn of the program, which reads once, leaves for the next one.
 use Prim.Native.Nat.{ℕ, _<_}
+use Rattle.arrival_record.specs.Record.{recordOctets}
 use Rattle.ccfbline.specs.declared.Turn.{Turn}
-use Rattle.arrival_file.specs.File.{recordOctets}
 use Rattle.ccfbline.specs.declared.Turn.the-variants.{More, Done, Failed}
 
 -- the octets that the program reads into

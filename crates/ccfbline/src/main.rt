@@ -1,7 +1,7 @@
 // Reads an arrival file from standard input, and prints the feedback on its streams or the file's first fault.
 ghost use Prim.Native.Nat.{_≤_, _<_};
 ghost use lib.ListN.{length};
-ghost use Rattle.arrival_file.specs.File.{recordOctets};
+ghost use Rattle.arrival_record.specs.Record.{recordOctets};
 ghost use Rattle.ccfbline.specs.Turn.{bufferOctets, Short};
 use arrival_file::Phase;
 use intake::Intake;
@@ -78,8 +78,8 @@ fn print(places: &[u64], cells: &[u64], intake: Intake) {
 }
 
 fn main() {
-    let mut places = line::fresh_places();
-    let mut cells = line::fresh_cells();
+    let mut places = line_store::fresh_places();
+    let mut cells = line_store::fresh_cells();
     let mut buf = io::large_buffer();
     let input = take_input(&mut places, &mut cells, &mut buf);
     match input {

@@ -17,7 +17,7 @@ use Rattle.reader.specs.Reading.{located, reportedOf}
 use Rattle.cutting.specs.declared.Request.{Request}
 use Rattle.writer_laws.specs.Read.{packetsIn, Report}
 use Rattle.reader.specs.declared.BlockAnswer.the-variants as answer
-use Rattle.reader.specs.declared.MetricAnswer.the-variants as asked
+use Rattle.reports.specs.declared.MetricAnswer.the-variants as asked
 
 -- the full number of s in the window that ends with the full number top
 abbrev pub fullNumber : ℕ → ℕ → ℕ

@@ -9,16 +9,17 @@ use lib.Dec.{ltb}
 use lib.ListN.{length, take, drop, length-drop}
 use lib.Seq.{sets, sets-eq, take-at}
 use Rattle.lists.proofs.Cases.{split-le}
-use Rattle.arrival_file.specs.File.{headerOf, recordReadOf, fileOf, fileHeaderOctets, recordOctets}
+use Rattle.arrival_record.specs.Record.{recordReadOf, recordOctets}
+use Rattle.arrival_record.specs.declared.Record.{Record}
+use Rattle.arrival_record.specs.declared.RecordRead.{RecordRead}
+use Rattle.arrival_file.specs.File.{headerOf, fileOf, fileHeaderOctets}
 use Rattle.arrival_file.specs.Pieces.{Feeding, feeding, onEntry, taken, takenBehind, takenHere, fed, ended, allTaken}
-use Rattle.arrival_file.specs.declared.Record.{Record}
-use Rattle.arrival_file.specs.declared.RecordRead.{RecordRead}
 use Rattle.arrival_file.specs.declared.Check.{Check}
 use Rattle.arrival_file.specs.declared.Phase.{Phase}
 use Rattle.arrival_file.proofs.Pieces.{pieces}
 use Rattle.intake.specs.Intake.{Recorded, recorded, afterRecord, IntakeAfter, intakeAfter, kept, fedOf, leftOf, fedNext, heldIn}
 use Rattle.intake.specs.declared.Intake.{Intake}
-use Rattle.arrival_file.specs.declared.RecordRead.the-variants as entry
+use Rattle.arrival_record.specs.declared.RecordRead.the-variants as entry
 use Rattle.arrival_file.specs.declared.Check.the-variants.{Sound, Refused}
 use Rattle.arrival_file.specs.declared.Phase.the-variants.{Header, Records, Faulty}
 use Rattle.intake.specs.Intake as intake

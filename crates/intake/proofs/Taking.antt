@@ -11,15 +11,16 @@ use Rattle.refusal.specs.declared.Refusal.{Refusal}
 use Rattle.places.specs.Window.{storeAfter}
 use Rattle.store.specs.Store.{arrived}
 use Rattle.store.specs.declared.Arrival.{Arrival}
-use Rattle.arrival_file.specs.File.{headerOf, recordReadOf, fileHeaderOctets, recordOctets}
+use Rattle.arrival_record.specs.Record.{recordReadOf, recordOctets}
+use Rattle.arrival_record.specs.declared.Record.{Record}
+use Rattle.arrival_record.specs.declared.RecordRead.{RecordRead}
+use Rattle.arrival_file.specs.File.{headerOf, fileHeaderOctets}
 use Rattle.arrival_file.specs.Pieces.{Feeding, feeding, taken, takenHere}
-use Rattle.arrival_file.specs.declared.Record.{Record}
-use Rattle.arrival_file.specs.declared.RecordRead.{RecordRead}
 use Rattle.arrival_file.specs.declared.Phase.{Phase}
 use Rattle.intake.specs.declared.Taken.{Taken}
 use Rattle.intake.specs.Intake.{Recorded, recorded, lastKnown, recordedAfter, afterRecord, intakeAfter, kept}
 use Rattle.intake.specs.Steps.{TakenTo}
-use Rattle.arrival_file.specs.declared.RecordRead.the-variants as entry
+use Rattle.arrival_record.specs.declared.RecordRead.the-variants as entry
 use Rattle.arrival_file.specs.declared.Phase.the-variants.{Header, Records, Faulty}
 use Rattle.arrival_file.specs.declared.Check.the-variants.{Sound, Refused}
 

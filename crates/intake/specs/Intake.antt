@@ -8,8 +8,8 @@ use Rattle.metric.specs.declared.Time.{Time}
 use Rattle.places.specs.Window.{StoreAfter}
 use Rattle.store.specs.Store.{arrived}
 use Rattle.store.specs.declared.Arrival.{Arrival}
+use Rattle.arrival_record.specs.declared.Record.{Record}
 use Rattle.arrival_file.specs.Pieces.{Feeding, feeding, takenHere}
-use Rattle.arrival_file.specs.declared.Record.{Record}
 use Rattle.intake.specs.declared.Intake.{Intake}
 use Rattle.metric.specs.declared.Time.the-variants.{Unknown, Known}
 use Rattle.arrival_file.specs.declared.Phase.the-variants.{Header}

@@ -3,15 +3,15 @@ ghost use mathlib.Core.Path.{_≡_};
 ghost use Prim.Native.Nat.{_/_, _≤_};
 ghost use lib.ListN.{length, drop};
 ghost use lib.Seq.{sets};
-ghost use Rattle.arrival_file.specs.File.{recordOctets};
+ghost use Rattle.arrival_record.specs.Record.{recordOctets};
 ghost use Rattle.arrival_file.specs.Pieces.{taken, takenHere};
 ghost use Rattle.intake.specs.Intake.{lastKnown, recorded, afterRecord, atStart, intakeAfter, fedOf};
 ghost use Rattle.intake.specs.Steps.{TakenTo};
 use arrival_file::Check;
 use arrival_file::FILE_HEADER_OCTETS;
 use arrival_file::Phase;
-use arrival_file::RECORD_OCTETS;
-use arrival_file::RecordRead;
+use arrival_record::RECORD_OCTETS;
+use arrival_record::RecordRead;
 use metric::Time;
 
 // Where the taking of a file stands: its phase, RTS (the last known time so far, else 0), and how many octets are not
@@ -61,7 +61,7 @@ fn take_records(places: &mut [u64], cells: &mut [u64], s: &[u8], from: usize, rt
     let mut at = from;
     let mut last = rts;
     while RECORD_OCTETS <= s.len() - at {
-        let here = arrival_file::read_record(&s[at..]);
+        let here = arrival_record::read_record(&s[at..]);
         match here {
             RecordRead::Record(r) => {
                 let time = r.time;

@@ -7,18 +7,13 @@ ghost use Rattle.octets.specs.Output.{outputAfter};
 ghost use Rattle.places.specs.Shape.{mostPlaces};
 ghost use Rattle.line_text.specs.Text.{putText};
 ghost use Rattle.line.specs.Line.{newest, packetRoom, lineRoom, reportText, finishedText};
-ghost use Rattle.line.specs.Printed.{freshPlaces, freshCells};
 use arrival_file::Check;
 use cutting::Request;
 use intake::Intake;
 use places::Holding;
 use places::MOST_PLACES;
 use refusal::Refusal;
-use window::CELLS_OF_A_PLACE;
 use writer::Answer;
-
-// The store of the program.
-const PLACES: usize = 4;
 
 // How many numbers of each stream are asked for, and how far before the highest they begin.
 const NEWEST: u16 = 4;
@@ -32,20 +27,6 @@ const LIMIT: usize = 1200;
 
 // Room for a packet on 16 streams, four numbers of each: 16 blocks of 16 octets, and 12 octets besides.
 const PACKET_ROOM: usize = 268;
-
-// A store of four places, each free.
-pub fn fresh_places() -> [u64; PLACES]
-    ensures value { λ r. ⌜ r ≡ freshPlaces ⌝ }
-{
-    [0; PLACES]
-}
-
-// Its cells, each empty.
-pub fn fresh_cells() -> [u64; PLACES * CELLS_OF_A_PLACE]
-    ensures value { λ r. ⌜ r ≡ freshCells ⌝ }
-{
-    [0; PLACES * CELLS_OF_A_PLACE]
-}
 
 // Room for the packet.
 fn packet_room() -> [u8; PACKET_ROOM]

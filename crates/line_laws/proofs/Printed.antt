@@ -11,6 +11,8 @@ use Rattle.refusal.specs.declared.Refusal.{Refusal}
 use Rattle.octets.specs.Output.{outputAfter}
 use Rattle.octets.specs.Octets.{Octets}
 use Rattle.metric.specs.declared.Time.{Time}
+use Rattle.metric.specs.Metric.{congested}
+use Rattle.window.specs.Ring.{cellsOfAPlace}
 use Rattle.places.specs.Place.{placeAt}
 use Rattle.places.specs.Shape.{Shaped, Misshapen}
 use Rattle.places.specs.Window.{StoreAfter}
@@ -22,21 +24,20 @@ use Rattle.history.specs.Reading.{Fresh}
 use Rattle.history.proofs.Simulation.{zeroed-fresh}
 use Rattle.history.proofs.ByHistory.{same-reading, no-ssrc-twice}
 use Rattle.history.proofs.Refusals.{arrival-given}
+use Rattle.arrival_record.specs.declared.Record.{Record}
 use Rattle.arrival_file.specs.File.{Result, sound, faulty, endOf, fileOf}
 use Rattle.arrival_file.specs.Pieces.{resultOf, ended, allTaken, takenHere}
-use Rattle.arrival_file.specs.declared.Record.{Record}
 use Rattle.arrival_file.specs.declared.Check.{Check}
 use Rattle.intake.specs.Intake.{Recorded, recorded, lastKnown, afterRecord, leftOf, fedNext, heldIn}
 use Rattle.intake.specs.declared.Intake.{Intake}
 use Rattle.intake.proofs.Pieces.{all-calls, calls-left}
 use Rattle.line_text.specs.Text.{refusedLine, putText}
+use Rattle.line_store.specs.Fresh.{freshPlaces, freshCells, linePlaces}
 use Rattle.line.specs.Line.{reportText, ifWhole, finishedText}
-use Rattle.line.specs.Printed.{freshPlaces, freshCells, fresh, reportOf, printedOf, printed, linePlaces}
+use Rattle.line.specs.Printed.{fresh, reportOf, printedOf, printed}
 use Rattle.line_laws.specs.Laws.{Answered, LastTime, fedPieces}
 use Rattle.line_laws.proofs.Records.{callOf, InRange, file-range, calls-range}
 use Rattle.line_laws.proofs.Streams.{sound-requests}
-use Rattle.metric.specs.Metric.{congested}
-use Rattle.window.specs.Ring.{cellsOfAPlace}
 use Rattle.metric.specs.declared.Time.the-variants.{Unknown, Known}
 use Rattle.places.specs.declared.Holding.the-variants.{Held}
 use Rattle.history.specs.Refusals as given

@@ -12,13 +12,14 @@ use Rattle.octets.specs.Octets.{be32, Octets}
 use Rattle.octets.proofs.Small.{less-32, octets-from, less-16}
 use Rattle.metric.specs.Metric.{TimeInRange, timeOf, times, congested}
 use Rattle.history.specs.Calls.{Call, arrive, CallInRange}
-use Rattle.arrival_file.specs.File.{isFaulty, recordOf, recordReadOf, headerOf, Result, sound, faulty, recordFirst, recordsOf, behind, fileOf, fileHeaderOctets, recordOctets}
-use Rattle.arrival_file.specs.declared.Record.{Record}
-use Rattle.arrival_file.specs.declared.RecordRead.{RecordRead}
+use Rattle.arrival_record.specs.Record.{isFaulty, recordOf, recordReadOf, recordOctets}
+use Rattle.arrival_record.specs.declared.Record.{Record}
+use Rattle.arrival_record.specs.declared.RecordRead.{RecordRead}
+use Rattle.arrival_record.proofs.Cases.{cut-short, bad-record, sound-record}
+use Rattle.arrival_file.specs.File.{headerOf, Result, sound, faulty, recordFirst, recordsOf, behind, fileOf, fileHeaderOctets}
 use Rattle.arrival_file.specs.declared.Check.{Check}
-use Rattle.arrival_file.proofs.Entries.{cut-short, bad-record, sound-record}
 use Rattle.refusal.specs.declared.Refusal.the-variants.{RecordCutShort}
-use Rattle.arrival_file.specs.declared.RecordRead.the-variants as entry
+use Rattle.arrival_record.specs.declared.RecordRead.the-variants as entry
 use Rattle.arrival_file.specs.declared.Check.the-variants.{Sound, Refused}
 
 -- ---- records

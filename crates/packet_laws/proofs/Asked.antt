@@ -16,8 +16,8 @@ use Rattle.packet.proofs.Sizes.{length-metrics}
 use Rattle.walk.specs.Walk.{Walked, walked, stopped, walkOf}
 use Rattle.walk.specs.declared.ReportBlock.{ReportBlock}
 use Rattle.walk.proofs.Walks.{walk-ind}
-use Rattle.reader.specs.Reading.{packet, metricsAt, blockIn, packetIn, decoded, decode, nth, readBlock, metricsPart}
-use Rattle.reader.specs.Reading.{reportedIn, reportedOf, readMetric, caseAt, Within}
+use Rattle.reports.specs.Reports.{reportedIn, caseAt, Within}
+use Rattle.reader.specs.Reading.{packet, metricsAt, blockIn, packetIn, decoded, decode, nth, readBlock, metricsPart, reportedOf, readMetric}
 use Rattle.reader.proofs.Answers.{length-metricsAt, walked-sound, within}
 use Rattle.rewriter.proofs.Output.{octets-read}
 use Rattle.packet_laws.specs.Asked.{laid, metricsOf, blockMetric, packetMetric, caseOf}

@@ -11,11 +11,10 @@ use Rattle.packet.specs.Packet.{Packet, encodeMetrics, filler, encodeBlock, enc
 use Rattle.walk.specs.Walk.{startOf, fillerAt, stepAt, walk, walkOf}
 use Rattle.reader.specs.Reading.{packet, refused, metricsAt, decode, readBlock, readMetric}
 use Rattle.rewriter.specs.Rewrite.{rewriteOf}
-use Rattle.refusal.specs.declared.Refusal.the-variants.{OutputTooShort, PacketTooShort, BadVersion, BadType, BadLength, Padded, RunsIntoRts}
-use Rattle.refusal.specs.declared.Refusal.the-variants.{TooManyReports, FillerNotZero, NoBlock, NoNumber}
+use Rattle.refusal.specs.declared.Refusal.the-variants.{OutputTooShort, PacketTooShort, BadVersion, BadType, BadLength, Padded, RunsIntoRts, TooManyReports, FillerNotZero, NoBlock, NoNumber}
 use Rattle.metric.specs.declared.Metric.the-variants.{NotReceived, Received}
 use Rattle.reader.specs.declared.BlockAnswer.the-variants as answer
-use Rattle.reader.specs.declared.MetricAnswer.the-variants.{Reported, Refused}
+use Rattle.reports.specs.declared.MetricAnswer.the-variants.{Reported, Refused}
 use Rattle.rewriter.specs.declared.Rewriting.the-variants as rewriting
 
 -- a packet of one block, whose numbers go past 65535

@@ -7,8 +7,7 @@ use lib.ListN.{length}
 use Rattle.lists.specs.All.{All}
 use Rattle.lists.proofs.Cases.{split-eq}
 use Rattle.octets.specs.Octets.{octets16, octets32, Octets}
-use Rattle.packet.specs.Packet.{Block, Packet, reportCounts, FitBlock, Fit}
-use Rattle.packet.specs.Packet.{encodeMetrics, filler, blockHeader, encodeBlock, encodeBlocks, packetHeader, encodePacket}
+use Rattle.packet.specs.Packet.{Block, Packet, reportCounts, FitBlock, Fit, encodeMetrics, filler, blockHeader, encodeBlock, encodeBlocks, packetHeader, encodePacket}
 use Rattle.packet.specs.Sizes.{packetOctets}
 
 join : (l m : List ℕ) → Octets l → Octets m → Octets (l ++ m)

@@ -9,11 +9,11 @@ use Rattle.metric.specs.Metric.{decodeOf}
 use Rattle.packet.specs.Packet.{Block}
 use Rattle.packet.specs.Sizes.{blockHeaderOctets, blockOctets}
 use Rattle.walk.specs.declared.ReportBlock.{ReportBlock}
-use Rattle.reader.specs.declared.MetricAnswer.{MetricAnswer}
-use Rattle.reader.specs.declared.PartAnswer.{PartAnswer}
+use Rattle.reports.specs.declared.MetricAnswer.{MetricAnswer}
+use Rattle.reports.specs.declared.PartAnswer.{PartAnswer}
 use Rattle.refusal.specs.declared.Refusal.the-variants.{NoBlock, NoNumber}
-use Rattle.reader.specs.declared.MetricAnswer.the-variants.{Reported, Refused}
-use Rattle.reader.specs.declared.PartAnswer.the-variants as part
+use Rattle.reports.specs.declared.MetricAnswer.the-variants.{Reported, Refused}
+use Rattle.reports.specs.declared.PartAnswer.the-variants as part
 
 -- a block that stands at an offset: its metrics follow its header
 abbrev pub laidBlock : ℕ → Block → ReportBlock

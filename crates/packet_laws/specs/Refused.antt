@@ -11,8 +11,7 @@ use Rattle.packet.specs.Sizes.{mostReports, packetHeaderOctets, blockHeaderOcte
 use Rattle.walk.specs.Walk.{versionOf, paddingOf, formatOf, typeOf, lengthOf, rtsAt}
 use Rattle.reader.specs.Reading.{packet, decode}
 use Rattle.packet_laws.specs.Asked.{metricsOf}
-use Rattle.refusal.specs.declared.Refusal.the-variants.{OutputTooShort, PacketTooShort, BadVersion, BadType, BadLength, Padded}
-use Rattle.refusal.specs.declared.Refusal.the-variants.{RunsIntoRts, TooManyReports, FillerNotZero, NoBlock, NoNumber}
+use Rattle.refusal.specs.declared.Refusal.the-variants.{OutputTooShort, PacketTooShort, BadVersion, BadType, BadLength, Padded, RunsIntoRts, TooManyReports, FillerNotZero, NoBlock, NoNumber}
 
 -- ---- the header
 

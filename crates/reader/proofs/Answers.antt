@@ -1,11 +1,10 @@
 -- The reader's answers, from what the code's steps have found. Assumes nothing.
-use Prim.Native.Nat.{ℕ, zero, suc, _+_, _-_, _*_, _<_, _≤_}
+use Prim.Native.Nat.{ℕ, zero, suc, _+_, _-_}
 use mathlib.Core.Path.{_≡_, refl, sym, ap, _∙_}
 use mathlib.Core.List.{List, [], _∷_}
 use native.Mathlib.Omega.{arith}
-use native.Mathlib.Nat.{add-zero, zero-add, add-sub-cancel-left}
-use borrow.Author.Tests.{le-leb, lt-leb}
-use lib.ListN.{length, take, drop, length-map}
+use native.Mathlib.Nat.{add-zero, zero-add}
+use lib.ListN.{length, length-map}
 use Rattle.lists.specs.All.{All}
 use Rattle.lists.proofs.Cases.{never}
 use Rattle.refusal.specs.declared.Refusal.{Refusal}
@@ -18,7 +17,8 @@ use Rattle.walk.specs.declared.Step.{Step}
 use Rattle.walk.proofs.Starts.{SoundHeader, sound-header}
 use Rattle.walk.proofs.Steps.{found}
 use Rattle.walk.proofs.Walks.{walk-step, walk-block, walk-end, walk-refused, walk-ind}
-use Rattle.reader.specs.Reading.{refused, decoded, decode, readOf, nth, located, partOf, Within, metricsAt}
+use Rattle.reports.specs.Reports.{Within}
+use Rattle.reader.specs.Reading.{refused, decoded, decode, readOf, nth, located, metricsAt}
 use Rattle.reader.specs.Steps.{counted, pastBlock, afterBlocks}
 use Rattle.reader.specs.declared.Count.{Count}
 use Rattle.reader.specs.declared.BlockAnswer.{BlockAnswer}
@@ -201,11 +201,3 @@ module _ (s : List ℕ) where
           nth-within bs k b
           (walk-ind s (λ at bs. All (Within s) bs) (λ at h. tt) (λ at b next bs f r. (within at b next f, r)) 8 bs (walked-sound s bs f .1)) h
       by-walk (stopped x) f h = never (cc)
-
-module _ (s : List ℕ) (b : ReportBlock) where
-  pub part-held : b .«metrics_at» + 2 * b .«num_reports» ≤ length s
-      → take (b .«metrics_at» + 2 * b .«num_reports» - b .«metrics_at») (drop (b .«metrics_at») s) ≡ partOf s b
-  part-held h = rw add-sub-cancel-left (simp (le-leb (b .«metrics_at» + 2 * b .«num_reports») (length s) h))
-
-  pub part-not-held : length s < b .«metrics_at» + 2 * b .«num_reports» → [] ≡ partOf s b
-  part-not-held h = simp (lt-leb (b .«metrics_at» + 2 * b .«num_reports») (length s) h)

@@ -1,26 +1,23 @@
 -- What any octets are read as, a packet or the reader's first refusal, and the reader's answers about them:
 -- sender, RTS and number of blocks; block k, and the part of the octets that holds its metrics; metric j of
 -- block k.
-use Prim.Native.Nat.{ℕ, zero, suc, _+_, _*_, _/_, _%_, _^_, _≤_}
-use mathlib.Core.Bool.{cond}
+use Prim.Native.Nat.{ℕ, zero, suc, _+_}
 use mathlib.Core.List.{List, [], _∷_, map}
-use lib.ListN.{length, take, drop}
-use lib.Dec.{leb}
+use lib.ListN.{length}
 use Rattle.refusal.specs.declared.Refusal.{Refusal}
 use Rattle.octets.specs.Octets.{be16, be32}
-use Rattle.metric.specs.Metric.{decodeOf}
 use Rattle.packet.specs.Packet.{Block, Packet, senderAt}
 use Rattle.walk.specs.Walk.{Walked, walked, stopped, walkOf, rtsAt}
 use Rattle.walk.specs.declared.ReportBlock.{ReportBlock}
+use Rattle.reports.specs.declared.MetricAnswer.{MetricAnswer}
+use Rattle.reports.specs.Reports.{reportedIn, partOf}
 use Rattle.reader.specs.declared.Reading.{Reading}
 use Rattle.reader.specs.declared.BlockAnswer.{BlockAnswer}
-use Rattle.reader.specs.declared.PartAnswer.{PartAnswer}
-use Rattle.reader.specs.declared.MetricAnswer.{MetricAnswer}
-use Rattle.refusal.specs.declared.Refusal.the-variants.{NoBlock, NoNumber}
+use Rattle.refusal.specs.declared.Refusal.the-variants.{NoBlock}
 use Rattle.reader.specs.declared.Reading.the-variants as reading
 use Rattle.reader.specs.declared.BlockAnswer.the-variants as answer
-use Rattle.reader.specs.declared.PartAnswer.the-variants as part
-use Rattle.reader.specs.declared.MetricAnswer.the-variants as reported
+use Rattle.reports.specs.declared.PartAnswer.the-variants as part
+use Rattle.reports.specs.declared.MetricAnswer.the-variants as reported
 
 -- ---- what any octets are read as
 
@@ -70,22 +67,12 @@ located (stopped e) k = answer.Refused e
 abbrev pub readBlock : List ℕ → ℕ → BlockAnswer
 readBlock s k = located (walkOf s) k
 
--- the part of the octets that holds the metrics of a block, 2 octets each; empty where they are not all there
-abbrev pub partOf : List ℕ → ReportBlock → List ℕ
-partOf s b =
-    cond (leb (b .«metrics_at» + 2 * b .«num_reports») (length s))
-    (take (2 * b .«num_reports») (drop (b .«metrics_at») s)) []
-
+-- the metrics of block k; empty where it is refused
 abbrev pub metricsPart : BlockAnswer → List ℕ → List ℕ
 metricsPart (answer.Found b) s = partOf s b
 metricsPart (answer.Refused e) s = []
 
--- ---- metric j, from 0, of a block: its number and its case; 30 where there is none
-
-abbrev pub reportedIn : ReportBlock → List ℕ → ℕ → MetricAnswer
-reportedIn b s j =
-    cond (leb (b .«num_reports») j) (reported.Refused NoNumber)
-    (reported.Reported ((b .«begin_seq» + j) % 2 ^ 16) (decodeOf (be16 s (b .«metrics_at» + 2 * j))))
+-- ---- metric j of block k, both from 0
 
 abbrev pub reportedOf : BlockAnswer → List ℕ → ℕ → MetricAnswer
 reportedOf (answer.Found b) s j = reportedIn b s j
@@ -94,11 +81,3 @@ reportedOf (answer.Refused e) s j = reported.Refused e
 -- the reader's answer for metric j of block k
 abbrev pub readMetric : List ℕ → ℕ → ℕ → MetricAnswer
 readMetric s k j = reportedOf (readBlock s k) s j
-
--- metric j, from 0, of a part that holds metrics
-abbrev pub caseAt : List ℕ → ℕ → PartAnswer
-caseAt xs j = cond (leb (length xs / 2) j) (part.Refused NoNumber) (part.Case (decodeOf (be16 xs (2 * j))))
-
--- the metrics of a block are within the octets
-pub record Within (s : List ℕ) (b : ReportBlock) : Type 0 where
-  pub room : b .«metrics_at» + 2 * b .«num_reports» ≤ length s

@@ -1,12 +1,12 @@
 // The reader: what a CCFB packet says. It accepts any octets, and answers or gives the first refusal.
 ghost use mathlib.Core.Path.{_≡_};
 ghost use Rattle.walk.specs.Walk.{walkFrom, walkOf};
-ghost use Rattle.reader.specs.Reading.{decode, readOf, located, readBlock, partOf, metricsPart, reportedIn, readMetric, caseAt, Within};
+ghost use Rattle.reader.specs.Reading.{decode, readOf, located, readBlock, metricsPart, readMetric};
 ghost use Rattle.reader.specs.Steps.{counted, afterBlocks};
-use metric::Metric;
 use packet::RTS_OCTETS;
 use packet::SENDER_AT;
 use refusal::Refusal;
+use reports::MetricAnswer;
 use walk::Cursor;
 use walk::ReportBlock;
 use walk::Start;
@@ -30,16 +30,6 @@ pub enum Reading {
 
 pub enum BlockAnswer {
     Found(ReportBlock),
-    Refused(Refusal),
-}
-
-pub enum MetricAnswer {
-    Reported { number: u16, metric: Metric },
-    Refused(Refusal),
-}
-
-pub enum PartAnswer {
-    Case(Metric),
     Refused(Refusal),
 }
 
@@ -139,56 +129,14 @@ pub fn block(packet: &[u8], k: usize) -> BlockAnswer
     }
 }
 
-// The part of the packet that holds the metrics of a block, 2 octets each; empty where the packet does not hold them
-// all.
-pub fn metrics_of<'a>(packet: &'a [u8], b: ReportBlock) -> &'a [u8]
-    ensures part { λ r. ⌜ now r ≡ partOf (now (packet .entry)) b ⌝ }
-{
-    let from = b.metrics_at;
-    let size = 2 * (b.num_reports as usize);
-    if packet.len() < from {
-        return &packet[..0];
-    }
-    if packet.len() - from < size {
-        return &packet[..0];
-    }
-    let end = from + size;
-    &packet[from..end]
-}
-
 // The part of the packet that holds the metrics of block k; empty where the block is refused.
 pub fn block_metrics<'a>(packet: &'a [u8], k: usize) -> &'a [u8]
     ensures part { λ r. ⌜ now r ≡ metricsPart (readBlock (now (packet .entry)) k) (now (packet .entry)) ⌝ }
 {
     let answer = block(packet, k);
     match answer {
-        BlockAnswer::Found(b) => metrics_of(packet, b),
+        BlockAnswer::Found(b) => reports::metrics_of(packet, b),
         BlockAnswer::Refused(_) => &packet[..0],
-    }
-}
-
-// Metric j, from 0, of a part that holds metrics. No block is walked.
-pub fn metric_at(part: &[u8], j: usize) -> PartAnswer
-    ensures value { λ r. ⌜ r ≡ caseAt (now (part .entry)) j ⌝ }
-{
-    if part.len() / 2 <= j {
-        return PartAnswer::Refused(Refusal::NoNumber);
-    }
-    PartAnswer::Case(metric::decode(octets::get16(part, 2 * j)))
-}
-
-// Metric j, from 0, of a block.
-fn metric_in(packet: &[u8], b: ReportBlock, j: usize) -> MetricAnswer
-    requires within { ⌜ Within (now packet) b ⌝ }
-    ensures value { λ r. ⌜ r ≡ reportedIn b (now (packet .entry)) j ⌝ }
-{
-    if (b.num_reports as usize) <= j {
-        return MetricAnswer::Refused(Refusal::NoNumber);
-    }
-    let at = b.metrics_at + 2 * j;
-    MetricAnswer::Reported {
-        number: std::num::wrapping_add_u16(b.begin_seq, j as u16),
-        metric: metric::decode(octets::get16(packet, at)),
     }
 }
 
@@ -198,7 +146,7 @@ pub fn metric(packet: &[u8], k: usize, j: usize) -> MetricAnswer
 {
     let answer = block(packet, k);
     match answer {
-        BlockAnswer::Found(b) => metric_in(packet, b, j),
+        BlockAnswer::Found(b) => reports::metric_in(packet, b, j),
         BlockAnswer::Refused(e) => MetricAnswer::Refused(e),
     }
 }

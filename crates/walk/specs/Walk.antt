@@ -16,8 +16,7 @@ use Rattle.packet.specs.Sizes.{mostReports, wordOctets, packetHeaderOctets, blo
 use Rattle.walk.specs.declared.ReportBlock.{ReportBlock}
 use Rattle.walk.specs.declared.Start.{Start}
 use Rattle.walk.specs.declared.Step.{Step}
-use Rattle.refusal.specs.declared.Refusal.the-variants.{PacketTooShort, BadVersion, BadType, BadLength, Padded}
-use Rattle.refusal.specs.declared.Refusal.the-variants.{RunsIntoRts, TooManyReports, FillerNotZero}
+use Rattle.refusal.specs.declared.Refusal.the-variants.{PacketTooShort, BadVersion, BadType, BadLength, Padded, RunsIntoRts, TooManyReports, FillerNotZero}
 use Rattle.walk.specs.declared.Start.the-variants as start
 use Rattle.walk.specs.declared.Step.the-variants.{Block, End, Refused}
 

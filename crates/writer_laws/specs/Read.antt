@@ -24,7 +24,7 @@ use Rattle.blocks.specs.Packets.{packetsFor}
 use Rattle.metric.specs.declared.Metric.the-variants.{NotReceived}
 use Rattle.lists.specs.declared.Found.the-variants.{At, Nothing}
 use Rattle.reader.specs.declared.BlockAnswer.the-variants as answer
-use Rattle.reader.specs.declared.MetricAnswer.the-variants as asked
+use Rattle.reports.specs.declared.MetricAnswer.the-variants as asked
 
 -- ---- the packets that walking the length fields finds
 

@@ -1,7 +1,7 @@
 -- `ccfb_reader::ccfb_metric` meets its contract. Assumes nothing.
 use mathlib.Core.Path.{ap, _∙_}
 use mathlib.Core.List.{_∷_}
-use Rattle.reader.specs.declared.MetricAnswer.{MetricAnswer}
+use Rattle.reports.specs.declared.MetricAnswer.{MetricAnswer}
 use Rattle.ccfb_calls.specs.Called.{Called, called}
 use Rattle.ccfb_calls.proofs.Told.{told}
 use Rattle.ccfb_reader.specs.Packets.{metricCalled}

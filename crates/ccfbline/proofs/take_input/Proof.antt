@@ -4,8 +4,8 @@ use mathlib.Core.Path.{_≡_, refl, _∙_, subst}
 use native.Mathlib.Omega.{arith}
 use borrow.Author.Needs.{needs}
 use lib.ListN.{length}
+use Rattle.arrival_record.specs.Record.{recordOctets}
 use Rattle.ccfbline.specs.Turn.{Short}
-use Rattle.arrival_file.specs.File.{recordOctets}
 use Rattle.ccfbline.proofs.take_input.Statement.{statement}
 use Rattle.ccfbline.proofs.take_input.Tie as tie
 

@@ -4,10 +4,10 @@ use mathlib.Core.Path.{_≡_, refl, sym, _∙_}
 use native.Mathlib.Omega.{arith}
 use borrow.Author.Needs.{needs}
 use lib.ListN.{length, drop}
+use Rattle.arrival_record.specs.Record.{recordOctets}
 use Rattle.arrival_file.specs.Pieces.{taken}
 use Rattle.intake.specs.Intake.{recorded, afterRecord}
 use Rattle.intake.proofs.Taking.{turn-record, turn-refused, all-taken}
-use Rattle.arrival_file.specs.File.{recordOctets}
 use Rattle.intake.proofs.take_records.Statement.{statement}
 use Rattle.intake.proofs.take_records.Tie as tie
 

@@ -1,8 +1,8 @@
 -- `reader::metric_in` meets its contract. Assumes nothing.
 use borrow.Author.Tests.{le-leb, lt-leb}
 use borrow.Author.Needs.{needs}
-use Rattle.reader.proofs.metric_in.Statement.{statement}
-use Rattle.reader.proofs.metric_in.Tie as tie
+use Rattle.reports.proofs.metric_in.Statement.{statement}
+use Rattle.reports.proofs.metric_in.Tie as tie
 
 returns : tie.Need-returns
 returns c = simp (le-leb _ _ (c .if1 .taken))

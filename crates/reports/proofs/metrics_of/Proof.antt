@@ -1,9 +1,9 @@
 -- `reader::metrics_of` meets its contract. Assumes nothing.
 use native.Mathlib.Omega.{arith}
-use Rattle.reader.proofs.Answers.{part-held, part-not-held}
+use Rattle.reports.proofs.Parts.{part-held, part-not-held}
 use borrow.Author.Needs.{needs}
-use Rattle.reader.proofs.metrics_of.Statement.{statement}
-use Rattle.reader.proofs.metrics_of.Tie as tie
+use Rattle.reports.proofs.metrics_of.Statement.{statement}
+use Rattle.reports.proofs.metrics_of.Tie as tie
 
 returns : tie.Need-returns
 returns c =

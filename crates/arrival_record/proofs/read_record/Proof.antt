@@ -5,12 +5,12 @@ use lib.ListN.{getD}
 use lib.Dec.{eqb}
 use Rattle.octets.specs.Octets.{be32}
 use Rattle.metric.specs.Metric.{timeOf}
-use Rattle.arrival_file.specs.File.{isFaulty}
-use Rattle.arrival_file.proofs.Entries.{cut-short, bad-record, sound-record}
+use Rattle.arrival_record.specs.Record.{isFaulty}
+use Rattle.arrival_record.proofs.Cases.{cut-short, bad-record, sound-record}
 use native.Mathlib.Omega.{arith}
 use borrow.Author.Needs.{needs}
-use Rattle.arrival_file.proofs.read_record.Statement.{statement}
-use Rattle.arrival_file.proofs.read_record.Tie as tie
+use Rattle.arrival_record.proofs.read_record.Statement.{statement}
+use Rattle.arrival_record.proofs.read_record.Tie as tie
 
 returns : tie.Need-returns
 returns c = cut-short _ (omega arith)

@@ -1,9 +1,9 @@
 -- `arrival_file::is_faulty` meets its contract. Assumes nothing.
 use native.Mathlib.Omega.{arith}
 use borrow.Author.Tests.{lt-ltb, le-ltb, eq-eqb}
-use Rattle.arrival_file.specs.File.{isFaulty}
-use Rattle.arrival_file.proofs.is_faulty.Statement.{statement}
-use Rattle.arrival_file.proofs.is_faulty.Tie as tie
+use Rattle.arrival_record.specs.Record.{isFaulty}
+use Rattle.arrival_record.proofs.is_faulty.Statement.{statement}
+use Rattle.arrival_record.proofs.is_faulty.Tie as tie
 
 returns : tie.Need-returns
 unfolding isFaulty

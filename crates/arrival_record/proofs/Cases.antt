@@ -7,8 +7,8 @@ use borrow.Author.Tests.{lt-ltb, le-ltb}
 use lib.ListN.{length, getD}
 use Rattle.refusal.specs.declared.Refusal.the-variants.{RecordCutShort, BadRecord}
 use Rattle.octets.specs.Octets.{be32}
-use Rattle.arrival_file.specs.File.{isFaulty, recordOf, recordReadOf, recordOctets}
-use Rattle.arrival_file.specs.declared.RecordRead.the-variants.{Record, Refused}
+use Rattle.arrival_record.specs.Record.{isFaulty, recordOf, recordReadOf, recordOctets}
+use Rattle.arrival_record.specs.declared.RecordRead.the-variants.{Record, Refused}
 
 module _ (s : List ℕ) where
   pub cut-short : length s < recordOctets → Refused RecordCutShort ≡ recordReadOf s

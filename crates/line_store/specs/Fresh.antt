@@ -1,0 +1,14 @@
+-- The store of ccfbline, before the first record: four places, each free, and their cells.
+use Prim.Native.Nat.{ℕ, _*_}
+use mathlib.Core.List.{List}
+use lib.ListN.{replicate}
+use Rattle.window.specs.Ring.{cellsOfAPlace}
+
+abbrev pub linePlaces : ℕ
+linePlaces = 4
+
+abbrev pub freshPlaces : List ℕ
+freshPlaces = replicate linePlaces 0
+
+abbrev pub freshCells : List ℕ
+freshCells = replicate (linePlaces * cellsOfAPlace) 0
