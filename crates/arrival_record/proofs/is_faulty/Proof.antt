@@ -1,4 +1,4 @@
--- `arrival_file::is_faulty` meets its contract. Assumes nothing.
+-- `arrival_record::is_faulty` meets its contract. Assumes nothing.
 use native.Mathlib.Omega.{arith}
 use borrow.Author.Tests.{lt-ltb, le-ltb, eq-eqb}
 use Rattle.arrival_record.specs.Record.{isFaulty}

@@ -1,4 +1,4 @@
--- `arrival_file::read_record` meets its contract. Assumes nothing.
+-- `arrival_record::read_record` meets its contract. Assumes nothing.
 use mathlib.Core.Path.{_≡_}
 use mathlib.Core.Bool.{false, not}
 use lib.ListN.{getD}

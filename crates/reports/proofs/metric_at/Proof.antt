@@ -1,11 +1,14 @@
--- `reader::metric_at` meets its contract. Assumes nothing.
+-- `reports::metric_at` meets its contract. Assumes nothing.
+use Prim.Native.Nat.{_/_}
+use native.Mathlib.Omega.{arith}
+use lib.ListN.{length}
 use borrow.Author.Tests.{le-leb, lt-leb}
 use borrow.Author.Needs.{needs}
 use Rattle.reports.proofs.metric_at.Statement.{statement}
 use Rattle.reports.proofs.metric_at.Tie as tie
 
 returns : tie.Need-returns
-returns c = simp (le-leb _ _ (c .if1 .taken))
+returns c = let args = c .before .before .args in simp (le-leb (length (args .part .now) / 2) (args .j) (omega arith))
 
 returns-2 : tie.Need-returns-2
 returns-2 c = simp (lt-leb _ _ (c .before .before .if1 .left)) (rw (c .decode .ensures, c .before .get16 .ensures))

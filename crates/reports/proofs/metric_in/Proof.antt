@@ -1,11 +1,12 @@
--- `reader::metric_in` meets its contract. Assumes nothing.
+-- `reports::metric_in` meets its contract. Assumes nothing.
+use native.Mathlib.Omega.{arith}
 use borrow.Author.Tests.{le-leb, lt-leb}
 use borrow.Author.Needs.{needs}
 use Rattle.reports.proofs.metric_in.Statement.{statement}
 use Rattle.reports.proofs.metric_in.Tie as tie
 
 returns : tie.Need-returns
-returns c = simp (le-leb _ _ (c .if1 .taken))
+returns c = let args = c .before .before .before .args in simp (le-leb (args .b .«num_reports») (args .j) (omega arith))
 
 returns-2 : tie.Need-returns-2
 returns-2 c =

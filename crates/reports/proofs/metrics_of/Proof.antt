@@ -1,4 +1,4 @@
--- `reader::metrics_of` meets its contract. Assumes nothing.
+-- `reports::metrics_of` meets its contract. Assumes nothing.
 use native.Mathlib.Omega.{arith}
 use Rattle.reports.proofs.Parts.{part-held, part-not-held}
 use borrow.Author.Needs.{needs}
