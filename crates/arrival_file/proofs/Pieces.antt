@@ -49,9 +49,9 @@ module _ {S : Type 0} (step : S → Record → S) where
   behind-more Sound x s t = taken-more (length s / recordOctets) x s t refl
   behind-more (Refused e) x s t = refl
 
-  advanced-more : (p : Phase) (x : S) (s t : List ℕ) → takenHere step p x (s ++ t) ≡ fed step (takenHere step p x s) t
+  taken-here-more : (p : Phase) (x : S) (s t : List ℕ) → takenHere step p x (s ++ t) ≡ fed step (takenHere step p x s) t
   unfolding takenHere
-  advanced-more Header x s t =
+  taken-here-more Header x s t =
       split-le fileHeaderOctets (length s)
       (λ h. rw (
         le-ltb (length (s ++ t)) fileHeaderOctets (omega (arith, length-append s t)),
@@ -61,14 +61,14 @@ module _ {S : Type 0} (step : S → Record → S) where
       )
       (behind-more (headerOf s) x (drop fileHeaderOctets s) t))
       (λ h. rw (lt-ltb (length s) fileHeaderOctets h))
-  advanced-more Records x s t = behind-more Sound x s t
-  advanced-more (Faulty e) x s t = refl
+  taken-here-more Records x s t = behind-more Sound x s t
+  taken-here-more (Faulty e) x s t = refl
 
   -- two pieces back to back are as good as one
   pub two-pieces : (f : Feeding S) (s t : List ℕ) → fed step f (s ++ t) ≡ fed step (fed step f s) t
   two-pieces f s t =
       ap (takenHere step (f .phase) (f .made)) (sym (append-assoc (f .left) s t))
-      ∙ advanced-more (f .phase) (f .made) (f .left ++ s) t
+      ∙ taken-here-more (f .phase) (f .made) (f .left ++ s) t
 
   more-pieces : (f : Feeding S) (s : List ℕ) (ps : List (List ℕ)) → foldl (fed step) (fed step f s) ps ≡ fed step f (s ++ flatten ps)
   unfolding flatten

@@ -75,81 +75,81 @@ read-after word mark time m r =
 
 -- ---- the cells of a place
 module _ (cells : List ℕ) (k number mark : ℕ) (time : Time) where
-  pub length-entered : length (updated (wordAfter mark time) cells k number) ≡ length cells
+  pub length-updated : length (updated (wordAfter mark time) cells k number) ≡ length cells
   unfolding updated
-  length-entered = rw length-set
+  length-updated = rw length-set
 
-  entered-same : (m : ℕ) → m % cellsOfAPlace ≡ number % cellsOfAPlace → cellsOfAPlace * k + cellsOfAPlace ≤ length cells
+  updated-same : (m : ℕ) → m % cellsOfAPlace ≡ number % cellsOfAPlace → cellsOfAPlace * k + cellsOfAPlace ≤ length cells
       → cellAt (updated (wordAfter mark time) cells k number) k m ≡ wordAfter mark time (cellAt cells k m)
   unfolding updated
-  entered-same m e room = rw e (getD-set-same cells (cellsOfAPlace * k + number % cellsOfAPlace) _ 0 (omega arith))
+  updated-same m e room = rw e (getD-set-same cells (cellsOfAPlace * k + number % cellsOfAPlace) _ 0 (omega arith))
 
-  entered-other : (j : ℕ) → (j ≡ cellsOfAPlace * k + number % cellsOfAPlace → ⊥) → getD (updated (wordAfter mark time) cells k number) j 0 ≡ getD cells j 0
+  updated-other : (j : ℕ) → (j ≡ cellsOfAPlace * k + number % cellsOfAPlace → ⊥) → getD (updated (wordAfter mark time) cells k number) j 0 ≡ getD cells j 0
   unfolding updated
-  entered-other j n = getD-set-other cells (cellsOfAPlace * k + number % cellsOfAPlace) j _ 0 n
+  updated-other j n = getD-set-other cells (cellsOfAPlace * k + number % cellsOfAPlace) j _ 0 n
 
   -- those of another place stay
-  pub entered-away : (q m : ℕ) → (q ≡ k → ⊥) → cellAt (updated (wordAfter mark time) cells k number) q m ≡ cellAt cells q m
-  entered-away q m n =
-      entered-other (cellsOfAPlace * q + m % cellsOfAPlace) (other-place k q (m % cellsOfAPlace) (number % cellsOfAPlace) (omega arith) (omega arith) n)
+  pub updated-away : (q m : ℕ) → (q ≡ k → ⊥) → cellAt (updated (wordAfter mark time) cells k number) q m ≡ cellAt cells q m
+  updated-away q m n =
+      updated-other (cellsOfAPlace * q + m % cellsOfAPlace) (other-place k q (m % cellsOfAPlace) (number % cellsOfAPlace) (omega arith) (omega arith) n)
 
 module _ (cells : List ℕ) (k number n : ℕ) where
-  pub length-advanced : length (newestEmptied cells k number n) ≡ length cells
+  pub length-newest : length (newestEmptied cells k number n) ≡ length cells
   unfolding newestEmptied
-  length-advanced = length-emptied n cells (cellsOfAPlace * k) (number + (cellsOfAPlace + 1) - n)
+  length-newest = length-emptied n cells (cellsOfAPlace * k) (number + (cellsOfAPlace + 1) - n)
 
-  pub advanced-away : (q m : ℕ) → (q ≡ k → ⊥) → cellAt (newestEmptied cells k number n) q m ≡ cellAt cells q m
+  pub newest-away : (q m : ℕ) → (q ≡ k → ⊥) → cellAt (newestEmptied cells k number n) q m ≡ cellAt cells q m
   unfolding newestEmptied
-  advanced-away q m a =
+  newest-away q m a =
       emptied-kept n cells (cellsOfAPlace * k) (number + (cellsOfAPlace + 1) - n) (cellsOfAPlace * q + m % cellsOfAPlace)
       (λ i l. other-place k q (m % cellsOfAPlace) ((number + (cellsOfAPlace + 1) - n + i) % cellsOfAPlace) (omega arith) (omega arith) a)
 
   -- full is the highest number now, and n numbers are new to its window
   module _ (full : ℕ) (low : full % sequenceNumbers ≡ number) (few : n ≤ cellsOfAPlace)
       (room : cellsOfAPlace * k + cellsOfAPlace ≤ length cells) (m : ℕ) (le : m ≤ full) where
-    advanced-new : full < m + n → cellAt (newestEmptied cells k number n) k m ≡ 0
+    newest-new : full < m + n → cellAt (newestEmptied cells k number n) k m ≡ 0
     unfolding newestEmptied
-    advanced-new l =
+    newest-new l =
         let s = counted full number m n low few le l in
         emptied-gone n (m + n - (full + 1)) cells (cellsOfAPlace * k) (number + (cellsOfAPlace + 1) - n)
         (cellsOfAPlace * k + m % cellsOfAPlace) (omega arith) (omega arith) (omega arith)
 
-    advanced-old : m + n ≤ full → full < m + cellsOfAPlace → cellAt (newestEmptied cells k number n) k m ≡ cellAt cells k m
+    newest-old : m + n ≤ full → full < m + cellsOfAPlace → cellAt (newestEmptied cells k number n) k m ≡ cellAt cells k m
     unfolding newestEmptied
-    advanced-old l h =
+    newest-old l h =
         emptied-kept n cells (cellsOfAPlace * k) (number + (cellsOfAPlace + 1) - n) (cellsOfAPlace * k + m % cellsOfAPlace)
         (λ i b e. uncounted full number m n i low few l h b (omega arith))
 
     -- the window after the emptying, before the arrival is entered: the numbers that stay read as before, and the new ones have no arrival
-    pub advanced-reads : (es : List Entry) → full < m + cellsOfAPlace → (m + n ≤ full → readCell (cellAt cells k m) ≡ cellBy es m)
+    pub newest-reads : (es : List Entry) → full < m + cellsOfAPlace → (m + n ≤ full → readCell (cellAt cells k m) ≡ cellBy es m)
         → (full < m + n → cellBy es m ≡ Empty)
         → readCell (cellAt (newestEmptied cells k number n) k m) ≡ cellBy es m
-    advanced-reads es h old new =
+    newest-reads es h old new =
         elim (decLe (m + n) full) [
-          | yes l ↦ ap readCell (advanced-old l h) ∙ old l
+          | yes l ↦ ap readCell (newest-old l h) ∙ old l
           | no l ↦
               let g : full < m + n = omega arith in
-              ap readCell (advanced-new g) ∙ read-zero ∙ sym (new g)
+              ap readCell (newest-new g) ∙ read-zero ∙ sym (new g)
         ]
 
 -- an arrival of a number of the window, entered where the window reads as the entries before it say
-pub entered-reads : (cells : List ℕ) (k top number : ℕ) (es : List Entry) (e : Entry)
+pub updated-reads : (cells : List ℕ) (k top number : ℕ) (es : List Entry) (e : Entry)
     → e .full % sequenceNumbers ≡ number → e .full ≤ top → top < e .full + cellsOfAPlace → e .mark ≤ congested
     → TimeInRange (e .time) → cellsOfAPlace * k + cellsOfAPlace ≤ length cells
     → ((m : ℕ) → m ≤ top → top < m + cellsOfAPlace → readCell (cellAt cells k m) ≡ cellBy es m)
     → (m : ℕ) → m ≤ top → top < m + cellsOfAPlace → readCell (cellAt (updated (wordAfter (e .mark) (e .time)) cells k number) k m) ≡ cellBy (es ++ (e ∷ [])) m
-entered-reads cells k top number es e low le lt mark time room before m mle mlt =
+updated-reads cells k top number es e low le lt mark time room before m mle mlt =
     elim (ℕ-discrete (e .full) m) [
       | yes q ↦
           let s : m % cellsOfAPlace ≡ number % cellsOfAPlace = same-slot m number (rw (← q) low) in
-          ap readCell (entered-same cells k number (e .mark) (e .time) m s room)
+          ap readCell (updated-same cells k number (e .mark) (e .time) m s room)
           ∙ read-after (cellAt cells k m) (e .mark) (e .time) mark time
           ∙ ap (λ (c : Cell). afterCopy c (e .mark) (e .time)) (before m mle mlt)
           ∙ sym (by-same e m q es)
       | no q ↦
           let s = same-slot (e .full) number low in
           ap readCell
-          (entered-other cells k number (e .mark) (e .time) (cellsOfAPlace * k + m % cellsOfAPlace)
+          (updated-other cells k number (e .mark) (e .time) (cellsOfAPlace * k + m % cellsOfAPlace)
           (λ h. q (apart top (e .full) m le lt mle mlt (omega arith))))
           ∙ before m mle mlt
           ∙ sym (by-other e m q es)

@@ -34,7 +34,7 @@ use Rattle.history.specs.Model.{Place, free, stream, names, isVacant, hi
 use Rattle.history.specs.Reading.{Holds, ReadsAt, Reads, Fresh}
 use Rattle.history.proofs.Numbers.{full-ahead, full-behind, full-low}
 use Rattle.history.proofs.Copies.{by-none, by-above}
-use Rattle.history.proofs.Cells.{length-entered, entered-away, length-advanced, advanced-away, advanced-reads, entered-reads}
+use Rattle.history.proofs.Cells.{length-updated, updated-away, length-newest, newest-away, newest-reads, updated-reads}
 use Rattle.history.proofs.Places.{find-same, free-same, replaced}
 use Rattle.places.specs.Shape.{mostPlaces}
 use Rattle.window.specs.Ring.{cellsOfAPlace}
@@ -92,11 +92,11 @@ module _ (st : Store) (ps : List Place) (R : Reads st ps)
         (set ps k (stream ssrc top (es ++ (entry full ∷ []))))
     within top full es S low le lt =
         replaced st ps R k (st .places) (updated (wordAfter mark time) (st .cells) k number)
-        (stream ssrc top (es ++ (entry full ∷ []))) there refl (length-entered (st .cells) k number mark time)
-        (λ q n. refl) (λ q m n. entered-away (st .cells) k number mark time q m n)
+        (stream ssrc top (es ++ (entry full ∷ []))) there refl (length-updated (st .cells) k number mark time)
+        (λ q n. refl) (λ q m n. updated-away (st .cells) k number mark time q m n)
         (record {
           place = S .place;
-          window = entered-reads (st .cells) k top number es (entry full) low le lt markLow timeLow room (S .window);
+          window = updated-reads (st .cells) k top number es (entry full) low le lt markLow timeLow room (S .window);
           begun = S .begun;
           highest = all-append (λ (e : Entry). e .full ≤ top) es (entry full) (S .highest) le;
           inRange = all-append EntryInRange es (entry full) (S .inRange) (let g = S .begun in (omega arith, (markLow, timeLow)));
@@ -114,18 +114,18 @@ module _ (st : Store) (ps : List Place) (R : Reads st ps)
         replaced st ps R k (set (st .places) k (placeWord ssrc number))
         (updated (wordAfter mark time) (newestEmptied (st .cells) k number n) k number) (stream ssrc full (es ++ (entry full ∷ []))) there
         (length-set (st .places) k (placeWord ssrc number))
-        (length-entered (newestEmptied (st .cells) k number n) k number mark time ∙ length-advanced (st .cells) k number n)
+        (length-updated (newestEmptied (st .cells) k number n) k number mark time ∙ length-newest (st .cells) k number n)
         (λ q e. getD-set-other (st .places) k q (placeWord ssrc number) 0 e)
-        (λ q m e. entered-away (newestEmptied (st .cells) k number n) k number mark time q m e ∙ advanced-away (st .cells) k number n q m e)
+        (λ q m e. updated-away (newestEmptied (st .cells) k number n) k number mark time q m e ∙ newest-away (st .cells) k number n q m e)
         (record {
           place =
               ap readPlace (getD-set-same (st .places) k (placeWord ssrc number) 0 there)
               ∙ read-word ssrc number ssrcLow numberLow
               ∙ ap (λ (x : ℕ). Held ssrc x) (sym low);
           window =
-              entered-reads (newestEmptied (st .cells) k number n) k full number es (entry full) low (omega arith) (omega arith) markLow timeLow
-              (rw (length-advanced (st .cells) k number n) room)
-              (λ m le lt. advanced-reads (st .cells) k number n full low few room m le es lt (old m le lt) (new m le));
+              updated-reads (newestEmptied (st .cells) k number n) k full number es (entry full) low (omega arith) (omega arith) markLow timeLow
+              (rw (length-newest (st .cells) k number n) room)
+              (λ m le lt. newest-reads (st .cells) k number n full low few room m le es lt (old m le lt) (new m le));
           begun = begun;
           highest = all-append (λ (e : Entry). e .full ≤ full) es (entry full) below (omega arith);
           inRange = all-append EntryInRange es (entry full) range (omega arith, (markLow, timeLow));

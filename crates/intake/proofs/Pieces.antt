@@ -41,15 +41,15 @@ module _ {S : Type 0} (step : S → Record → S) where
   behind-left Sound x s t h = omega (arith, taken-left (length t / recordOctets) x t)
   behind-left (Refused e) x s t h = omega arith
 
-  advanced-left : (p : Phase) (x : S) (s : List ℕ) → length (takenHere step p x s .left) ≤ length s
+  taken-here-left : (p : Phase) (x : S) (s : List ℕ) → length (takenHere step p x s .left) ≤ length s
   unfolding takenHere
-  advanced-left Header x s = go (ltb (length s) fileHeaderOctets)
+  taken-here-left Header x s = go (ltb (length s) fileHeaderOctets)
     where
       go : (b : Bool) → length (cond b (feeding Header x s) (takenBehind step (headerOf s) x (drop fileHeaderOctets s)) .left) ≤ length s
       go true = omega arith
       go false = behind-left (headerOf s) x s (drop fileHeaderOctets s) (omega (arith, length-drop fileHeaderOctets s))
-  advanced-left Records x s = behind-left Sound x s s (omega arith)
-  advanced-left (Faulty e) x s = omega arith
+  taken-here-left Records x s = behind-left Sound x s s (omega arith)
+  taken-here-left (Faulty e) x s = omega arith
 
 -- fewer octets are left than a record has
 module _ {S : Type 0} (step : S → Record → S) where
@@ -67,20 +67,20 @@ module _ {S : Type 0} (step : S → Record → S) where
   behind-short Sound x s = taken-short (length s / recordOctets) x s refl
   behind-short (Refused e) x s = omega arith
 
-  advanced-short : (p : Phase) (x : S) (s : List ℕ) → length (takenHere step p x s .left) < recordOctets
+  taken-here-short : (p : Phase) (x : S) (s : List ℕ) → length (takenHere step p x s .left) < recordOctets
   unfolding takenHere
-  advanced-short Header x s =
+  taken-here-short Header x s =
       split-le fileHeaderOctets (length s)
       (λ h. rw (le-ltb (length s) fileHeaderOctets h) (behind-short (headerOf s) x (drop fileHeaderOctets s)))
       (λ h. rw (lt-ltb (length s) fileHeaderOctets h) (omega arith))
-  advanced-short Records x s = behind-short Sound x s
-  advanced-short (Faulty e) x s = omega arith
+  taken-here-short Records x s = behind-short Sound x s
+  taken-here-short (Faulty e) x s = omega arith
 
 pub short-left : (places cells s s′ : List ℕ) (places′ cells′ : List ℕ) (i r : Intake)
     → intakeAfter r places′ cells′ s′ ≡ fedOf places cells i s → r .left < recordOctets
 short-left places cells s s′ places′ cells′ i r e =
     let l : r .left ≡ length (takenHere afterRecord (i .phase) (recorded places cells (i .rts)) s .left) = ap (λ (o : IntakeAfter). o .intake .left) e in
-    omega (arith, advanced-short afterRecord (i .phase) (recorded places cells (i .rts)) s)
+    omega (arith, taken-here-short afterRecord (i .phase) (recorded places cells (i .rts)) s)
 
 -- what was put at the front stands there
 front : (s t : List ℕ) → length t ≤ length s → take (length t) (sets s 0 t) ≡ t
@@ -89,7 +89,7 @@ front s t h = rw (sets-eq t s 0 (omega arith)) (take-at t (drop (0 + length t) s
 -- ---- one call, and all
 
 pub one-call : (o : IntakeAfter) (piece : List ℕ) → heldIn (fedNext o piece) ≡ fed afterRecord (heldIn o) piece
-one-call o piece = go (fed afterRecord (heldIn o) piece) (advanced-left afterRecord (heldIn o .phase) (heldIn o .made) (heldIn o .left ++ piece))
+one-call o piece = go (fed afterRecord (heldIn o) piece) (taken-here-left afterRecord (heldIn o .phase) (heldIn o .made) (heldIn o .left ++ piece))
   where
     go : (f : Feeding Recorded) → length (f .left) ≤ length (heldIn o .left ++ piece) → heldIn (kept f (heldIn o .left ++ piece)) ≡ f
     go f h = ap (feeding (f .phase) (f .made)) (front (heldIn o .left ++ piece) (f .left) h)
