@@ -10,7 +10,8 @@ use Rattle.lists.specs.All.{All}
 use Rattle.lists.proofs.All.{all-map}
 use Rattle.packet.specs.Sizes.{blockOctets, blocksOctets, packetOctets}
 use Rattle.cutting.specs.declared.Request.{Request}
-use Rattle.cutting.specs.Cutting.{CutBlock, CutPacket, allBlocks, blocksOf, roundedDown, following, numbersFrom, wholeBlocks, RangeRules, InOrder, streamOf, NoStreamTwice, PacketRules, Cuts, DifferentStreams, counts}
+use Rattle.cutting.specs.Cutting.{CutBlock, CutPacket, allBlocks, blocksOf, roundedDown, following, numbersFrom, wholeBlocks}
+use Rattle.cutting.specs.Cutting.{RangeRules, InOrder, streamOf, NoStreamTwice, PacketRules, Cuts, DifferentStreams, counts}
 use Rattle.cutting.specs.Limits.{leastLimit}
 use Rattle.cutting.specs.Plan.{firstNumbers, laterNumbers, numberAfter, filledFrom, packetsFrom, mostPackets, plan}
 use Rattle.cutting.proofs.Split.{Split, done, whole, part}

@@ -14,7 +14,8 @@ use Rattle.lists.proofs.Cases.{never}
 use Rattle.metric.specs.declared.Time.{Time}
 use Rattle.history.specs.Calls.{Call, arrive, forget, toArrival, toForgetting, Accepted, isDone, heard, heardAll}
 use Rattle.history.specs.Meaning.{Entry, fullOf, firstFull, entryOf, countFrom, topFrom, entriesOf, topOf}
-use Rattle.history.specs.Model.{Place, free, stream, names, isVacant, highestIn, entriesIn, at, findIn, vacantIn, Arrived, addedAt, laterAt, startedIn, arrivedIn, modelArrived, forgotAt, modelForgot, modelStep, modelAnswer, modelRun, modelAnswers, vacant}
+use Rattle.history.specs.Model.{Place, free, stream, names, isVacant, highestIn, entriesIn, at, findIn, vacantIn, Arrived, addedAt}
+use Rattle.history.specs.Model.{laterAt, startedIn, arrivedIn, modelArrived, forgotAt, modelForgot, modelStep, modelAnswer, modelRun, modelAnswers, vacant}
 use Rattle.history.proofs.Simulation.{later-old, later-in, named-is, vacant-is, vacant-at}
 use Rattle.history.proofs.Once.{Once, foundIn, streamIn, names-one, stream-none, lost, set-once, set-other, set-same, set-none}
 use Rattle.metric.specs.Metric.{congested}

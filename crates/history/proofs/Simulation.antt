@@ -30,7 +30,8 @@ use Rattle.store.specs.Store.{arrivedAt, arrived, forgottenAt, forgotten, answe
 use Rattle.store.specs.declared.Arrival.{Arrival}
 use Rattle.history.specs.Calls.{Call, arrive, forget, toArrival, toForgetting, Store, storeStep, storeAnswer, storeRun, storeAnswers, CallInRange}
 use Rattle.history.specs.Meaning.{Entry, fullOf, firstFull, cellBy, EntryInRange}
-use Rattle.history.specs.Model.{Place, free, stream, names, isVacant, highestIn, at, findIn, vacantIn, Arrived, refusedIn, addedAt, laterAt, startedIn, arrivedIn, modelArrived, forgotAt, modelForgot, modelPlace, modelStep, modelAnswer, modelRun, modelAnswers, vacant}
+use Rattle.history.specs.Model.{Place, free, stream, names, isVacant, highestIn, at, findIn, vacantIn, Arrived, refusedIn, addedAt}
+use Rattle.history.specs.Model.{laterAt, startedIn, arrivedIn, modelArrived, forgotAt, modelForgot, modelPlace, modelStep, modelAnswer, modelRun, modelAnswers, vacant}
 use Rattle.history.specs.Reading.{Holds, ReadsAt, Reads, Fresh}
 use Rattle.history.proofs.Numbers.{full-ahead, full-behind, full-low}
 use Rattle.history.proofs.Copies.{by-none, by-above}

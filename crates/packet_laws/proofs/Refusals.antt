@@ -12,7 +12,8 @@ use Rattle.octets.specs.Output.{OutputAfter, outputAfter}
 use Rattle.packet.specs.Packet.{Packet}
 use Rattle.packet.specs.Sizes.{mostReports, blockOctets}
 use Rattle.packet.proofs.Sizes.{even-octets, odd-octets}
-use Rattle.walk.specs.Walk.{versionOf, paddingOf, formatOf, typeOf, lengthOf, rtsAt, startOf, fillerAt, blockHere, stepAt, Walked, walked, stopped, inFront, onward, walk, walkFrom, started, walkOf}
+use Rattle.walk.specs.Walk.{versionOf, paddingOf, formatOf, typeOf, lengthOf, rtsAt, startOf, fillerAt, blockHere, stepAt}
+use Rattle.walk.specs.Walk.{Walked, walked, stopped, inFront, onward, walk, walkFrom, started, walkOf}
 use Rattle.walk.specs.declared.ReportBlock.{ReportBlock}
 use Rattle.walk.specs.declared.Cursor.{Cursor}
 use Rattle.walk.specs.declared.Start.{Start}
@@ -21,15 +22,18 @@ use Rattle.walk.proofs.Starts.{too-short, bad-version, bad-type, bad-format, ba
 use Rattle.walk.proofs.Steps.{step-end, step-no-header, step-many, step-overrun, step-filler, step-found, found, next-at, next-room}
 use Rattle.walk.proofs.Walks.{walk-block, walk-end, walk-refused, walk-ind}
 use Rattle.reports.specs.Reports.{reportedIn}
-use Rattle.reader.specs.Reading.{Decoded, packet, refused, blockIn, packetIn, decoded, decode, readOf, nth, located, readBlock, metricsPart, reportedOf, readMetric}
+use Rattle.reader.specs.Reading.{Decoded, packet, refused, blockIn, packetIn, decoded, decode}
+use Rattle.reader.specs.Reading.{readOf, nth, located, readBlock, metricsPart, reportedOf, readMetric}
 use Rattle.reader.specs.declared.BlockAnswer.{BlockAnswer}
 use Rattle.reader.proofs.Answers.{walked-sound}
 use Rattle.rewriter.specs.Rewrite.{rewriteOf}
 use Rattle.rewriter.specs.declared.Rewriting.{Rewriting}
 use Rattle.packet_laws.specs.Asked.{metricsOf, packetMetric}
-use Rattle.packet_laws.specs.Refused.{Long, Version, Typed, Sound, numReports, metricsEnd, SoundBlock, Walks, here, past, Fault, headerRoom, tooMany, metricsRoom, fillerSet, ReadingGiven, BlockGiven, noBlock, MetricGiven, noNumber, RewritingGiven}
+use Rattle.packet_laws.specs.Refused.{Long, Version, Typed, Sound, numReports, metricsEnd, SoundBlock, Walks, here, past, Fault}
+use Rattle.packet_laws.specs.Refused.{headerRoom, tooMany, metricsRoom, fillerSet, ReadingGiven, BlockGiven, noBlock, MetricGiven, noNumber, RewritingGiven}
 use Rattle.packet_laws.proofs.Asked.{accepted, accepted-octets, metric-asked}
-use Rattle.refusal.specs.declared.Refusal.the-variants.{OutputTooShort, PacketTooShort, BadVersion, BadType, BadLength, Padded, RunsIntoRts, TooManyReports, FillerNotZero, NoBlock, NoNumber}
+use Rattle.refusal.specs.declared.Refusal.the-variants.{OutputTooShort, PacketTooShort, BadVersion, BadType, BadLength, Padded}
+use Rattle.refusal.specs.declared.Refusal.the-variants.{RunsIntoRts, TooManyReports, FillerNotZero, NoBlock, NoNumber}
 use Rattle.packet.specs.Packet as form
 use Rattle.walk.specs.declared.Start.the-variants as start
 use Rattle.walk.specs.declared.Step.the-variants.{Block, End, Refused}

@@ -9,7 +9,8 @@ use Rattle.cutting.specs.Plan.{filledFrom}
 use Rattle.cutting.proofs.Plan.{whole-fits, part-fits}
 use Rattle.cutting.proofs.Requests.{noRequest}
 use Rattle.blocks.specs.Steps.{remaining, InRange, metricFound}
-use Rattle.blocks.proofs.Blocks.{position, range-at, range-in, range-start, next-whole, next-part, next-closed, next-past, block-here, Filling, filling-start, filling-room, filling-on, filling-done}
+use Rattle.blocks.proofs.Blocks.{position, range-at, range-in, range-start, next-whole, next-part, next-closed}
+use Rattle.blocks.proofs.Blocks.{next-past, block-here, Filling, filling-start, filling-room, filling-on, filling-done}
 use borrow.Author.Needs.{needs}
 use Rattle.blocks.proofs.put_blocks.Statement.{statement}
 use Rattle.blocks.proofs.put_blocks.Tie as tie
