@@ -3,12 +3,12 @@
 use Prim.Native.Nat.{ℕ}
 use mathlib.Core.List.{List, [], _∷_}
 use Rattle.refusal.specs.Numbers.{numberOf}
-use Rattle.places.specs.Window.{StoreAfter, storeAfter, PlacesAfter, placesAfter}
-use Rattle.store.specs.declared.Arrival.{Arrival}
+use Rattle.places.specs.After.{StoreAfter, storeAfter, PlacesAfter, placesAfter}
+use Rattle.arrivals.specs.declared.Arrival.{Arrival}
 use Rattle.store.specs.declared.Forgetting.{Forgetting}
 use Rattle.store.specs.declared.PlaceAnswer.{PlaceAnswer}
 use Rattle.ccfb_calls.specs.Called.{Called, called, refusedWith}
-use Rattle.store.specs.declared.Arrival.the-variants as arrival
+use Rattle.arrivals.specs.declared.Arrival.the-variants as arrival
 use Rattle.store.specs.declared.Forgetting.the-variants as forgetting
 use Rattle.store.specs.declared.PlaceAnswer.the-variants as place
 

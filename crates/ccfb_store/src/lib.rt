@@ -2,11 +2,12 @@
 ghost use mathlib.Core.Path.{_≡_};
 ghost use mathlib.Core.List.{[], _∷_};
 ghost use Rattle.metric.specs.Metric.{timeOf};
-ghost use Rattle.places.specs.Window.{storeAfter, placesAfter};
-ghost use Rattle.store.specs.Store.{arrived, forgotten, placeOf};
+ghost use Rattle.places.specs.After.{storeAfter, placesAfter};
+ghost use Rattle.arrivals.specs.Arrivals.{arrived};
+ghost use Rattle.store.specs.Store.{forgotten, placeOf};
 ghost use Rattle.ccfb_calls.specs.Called.{called};
 ghost use Rattle.ccfb_store.specs.Arrivals.{arrivalRefusal, arriveCalled, forgettingRefusal, forgetCalled, placeCalled};
-use store::Arrival;
+use arrivals::Arrival;
 use store::Forgetting;
 use store::PlaceAnswer;
 
@@ -36,7 +37,7 @@ pub extern "C" fn ccfb_arrive(
         ≡ arriveCalled
         (arrived (now (places .entry)) (now (cells .entry)) ssrc number mark (timeOf «time_known» time)) ⌝ }
 {
-    arrival_refusal(store::arrive(
+    arrival_refusal(arrivals::arrive(
         places,
         cells,
         ssrc,

@@ -4,6 +4,5 @@ pub mod Split
 pub mod Ahead
 pub mod FromRules
 pub mod ToRules
-pub mod Division
 pub mod Theorems
 pub mod Examples

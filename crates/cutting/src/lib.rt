@@ -1,13 +1,9 @@
-// How requests are cut into packets: the next block of a packet, and how many packets and octets there are.
+// How requests are cut into packets: the next block of a packet.
 ghost use mathlib.Core.Path.{_≡_};
-ghost use Prim.Native.Nat.{_≤_, _<_};
-ghost use lib.ListN.{take};
-ghost use Rattle.cutting.specs.Limits.{leastLimit, mostLimit, mostRequests};
-ghost use Rattle.cutting.specs.Plan.{fitting, nextBlock, numberAfter, plan};
-ghost use Rattle.cutting.specs.Steps.{FullPackets, Adds};
-ghost use Rattle.cutting.specs.Measure.{Measures};
+ghost use Prim.Native.Nat.{_≤_};
+ghost use Rattle.cutting.specs.Limits.{mostLimit};
+ghost use Rattle.cutting.specs.Plan.{fitting, nextBlock, numberAfter};
 use packet::BLOCK_HEADER_OCTETS;
-use packet::PACKET_FRAME;
 
 // A caller may give at most so many requests, and a limit of so many octets to a packet. The least limit holds a packet
 // that reports a number.
@@ -33,19 +29,6 @@ pub enum NextBlock {
     Whole,
     Part(u16),
     Closed,
-}
-
-// How many packets there are, and their octets together.
-pub struct Total {
-    pub packets: usize,
-    pub octets: usize,
-}
-
-// What a request adds to the total, and the room that is left in the last packet.
-pub struct Added {
-    pub packets: usize,
-    pub octets: usize,
-    pub room: usize,
 }
 
 // How many numbers a block can have in `room` octets.
@@ -80,83 +63,4 @@ pub fn number_after(begin: u16, j: u16) -> u16
     ensures value { λ r. ⌜ r ≡ numberAfter begin j ⌝ }
 {
     std::num::wrapping_add_u16(begin, j)
-}
-
-// How many packets `count` numbers fill before the last, with `most` numbers in each.
-fn full_packets(most: u16, count: u16) -> u16
-    requires several { ⌜ 1 < most ⌝ }
-    ensures value { λ r. ⌜ FullPackets most count r ⌝ }
-{
-    if count <= most {
-        return 0;
-    }
-    (count - 1) / most
-}
-
-// What a range of `count` numbers adds in packets of its own.
-fn add_packets(limit: usize, count: u16) -> Added
-    requires least { ⌜ leastLimit ≤ limit ⌝ }
-    requires most { ⌜ limit ≤ mostLimit ⌝ }
-    ensures value { λ r. ⌜ Adds limit 0 count r ⌝ }
-{
-    let most = numbers_in(limit - PACKET_FRAME);
-    let full = full_packets(most, count);
-    let last = packet::block_octets(count - full * most);
-    Added {
-        packets: (full as usize) + 1,
-        octets: (full as usize) * (PACKET_FRAME + packet::block_octets(most)) + PACKET_FRAME + last,
-        room: limit - PACKET_FRAME - last,
-    }
-}
-
-// What a range of `count` numbers adds, where the last packet has `room` octets left.
-fn add_range(limit: usize, room: usize, count: u16) -> Added
-    requires least { ⌜ leastLimit ≤ limit ⌝ }
-    requires most { ⌜ limit ≤ mostLimit ⌝ }
-    requires small { ⌜ room ≤ mostLimit ⌝ }
-    ensures value { λ r. ⌜ Adds limit room count r ⌝ }
-{
-    let next = next_block(room, count);
-    match next {
-        NextBlock::Whole => Added {
-            packets: 0,
-            octets: packet::block_octets(count),
-            room: room - packet::block_octets(count),
-        },
-        NextBlock::Part(first) => {
-            let more = add_packets(limit, count - first);
-            Added {
-                packets: more.packets,
-                octets: packet::block_octets(first) + more.octets,
-                room: more.room,
-            }
-        }
-        NextBlock::Closed => add_packets(limit, count),
-    }
-}
-
-// How many packets the first n requests take, and their octets. It divides, for speed alone: it goes by requests, and
-// not by packets.
-pub fn measure(limit: usize, requests: [Request; MOST_REQUESTS], n: usize) -> Total
-    requires least { ⌜ leastLimit ≤ limit ⌝ }
-    requires most { ⌜ limit ≤ mostLimit ⌝ }
-    requires few { ⌜ n ≤ mostRequests ⌝ }
-    ensures value { λ r. ⌜ Measures (plan limit (take n requests)) r ⌝ }
-{
-    let mut packets = 0;
-    let mut octets = 0;
-    let mut room = 0;
-    let mut i = 0;
-    while i < n {
-        let r = requests[i];
-        let more = add_range(limit, room, r.count);
-        packets += more.packets;
-        octets += more.octets;
-        room = more.room;
-        i += 1;
-    }
-    Total {
-        packets: packets,
-        octets: octets,
-    }
 }

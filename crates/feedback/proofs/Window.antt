@@ -7,7 +7,7 @@ use Rattle.lists.specs.All.{All}
 use Rattle.lists.proofs.Cases.{split-le}
 use Rattle.window.specs.Number.{distanceOf}
 use Rattle.window.specs.Ring.{cellsOfAPlace}
-use Rattle.places.specs.Window.{cellAt}
+use Rattle.place_window.specs.Window.{cellAt}
 use Rattle.places.specs.declared.Holding.{Holding}
 use Rattle.cells.specs.Cell.{readCell}
 use Rattle.history.specs.Meaning.{Entry, cellBy}

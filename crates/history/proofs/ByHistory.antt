@@ -16,7 +16,7 @@ use Rattle.lists.proofs.All.{all-append}
 use Rattle.lists.proofs.Cases.{never}
 use Rattle.metric.specs.declared.Time.{Time}
 use Rattle.places.specs.Place.{placeAt, isStream, findOf}
-use Rattle.places.specs.Window.{cellAt}
+use Rattle.place_window.specs.Window.{cellAt}
 use Rattle.cells.specs.Cell.{readCell}
 use Rattle.store.specs.Store.{placeOf, cellMetric}
 use Rattle.history.specs.Calls.{Call, arrive, forget, Answer, Store, storeRun, storeAnswers, Accepted, acceptedOf, isDone, heard, heardAll, CallInRange}

@@ -12,7 +12,7 @@ use Rattle.metric.specs.declared.Cell.{Cell}
 use Rattle.metric.specs.Metric.{TimeInRange, congested, times}
 use Rattle.window.specs.Ring.{cellsOfAPlace}
 use Rattle.window.proofs.Ring.{emptied-kept, emptied-gone, length-emptied}
-use Rattle.places.specs.Window.{cellAt, newestEmptied, updated}
+use Rattle.place_window.specs.Window.{cellAt, newestEmptied, updated}
 use Rattle.cells.specs.Cell.{wordTime, readCell, filledWord, foldedMark, wordAfter, leastFilled, kinds, leastTimed}
 use Rattle.cells.proofs.Words.{folded-small, after-empty, after-filled}
 use Rattle.history.specs.Meaning.{Entry, cellBy}

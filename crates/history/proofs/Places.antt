@@ -8,7 +8,7 @@ use lib.ListN.{length, getD, set, length-set}
 use lib.Seq.{getD-set-same, getD-set-other}
 use Rattle.lists.proofs.First.{first-cong}
 use Rattle.places.specs.Place.{readPlace, placeAt, isStream, isFree, findOf, freeOf}
-use Rattle.places.specs.Window.{cellAt}
+use Rattle.place_window.specs.Window.{cellAt}
 use Rattle.places.specs.declared.Holding.{Holding}
 use Rattle.cells.specs.Cell.{readCell}
 use Rattle.history.specs.Calls.{Store}

@@ -15,24 +15,26 @@ use Rattle.window.specs.declared.Move.{Move}
 use Rattle.window.proofs.Number.{move-ahead, move-within, move-old}
 use Rattle.places.specs.Place.{placeAt, highestAt, isFree, findOf, freeOf}
 use Rattle.places.specs.Shape.{Shaped}
-use Rattle.places.specs.Window.{StoreAfter, moved, movedBy, continued, startedAt, PlacesAfter}
+use Rattle.places.specs.After.{StoreAfter, PlacesAfter}
+use Rattle.place_window.specs.Window.{moved, movedBy, continued, startedAt}
 use Rattle.places.specs.declared.Holding.{Holding}
 use Rattle.places.specs.Held.{Vacant, HeldAt}
 use Rattle.places.proofs.Shape.{right, wrong, Shape, shaped-is, misshapen-is, shape-of}
-use Rattle.places.proofs.Moving.{continued-by}
+use Rattle.place_window.proofs.Moving.{continued-by}
 use Rattle.places.proofs.Held.{found-held, held-found, past-free, unheld-lost, lost-unheld, full-none, none-full, found-vacant}
 use Rattle.cells.specs.Cell.{wordAfter}
-use Rattle.store.specs.Store.{arrivedAt, arrived, forgottenAt, forgotten, answerOf, placeOf}
+use Rattle.arrivals.specs.Arrivals.{arrivedAt, arrived}
+use Rattle.store.specs.Store.{forgottenAt, forgotten, answerOf, placeOf}
 use Rattle.store.specs.declared.PlaceAnswer.{PlaceAnswer}
 use Rattle.store.specs.declared.Forgetting.{Forgetting}
-use Rattle.store.specs.declared.Arrival.{Arrival}
+use Rattle.arrivals.specs.declared.Arrival.{Arrival}
 use Rattle.history.specs.Refusals.{Old, ArrivalGiven, ForgettingGiven, PlaceGiven}
 use Rattle.metric.specs.Metric.{congested}
 use Rattle.window.specs.Ring.{cellsOfAPlace}
 use Rattle.window.specs.declared.Move.the-variants as move
 use Rattle.lists.specs.declared.Found.the-variants.{At, Nothing}
 use Rattle.places.specs.declared.Holding.the-variants.{Free, Held}
-use Rattle.store.specs.declared.Arrival.the-variants as arrival
+use Rattle.arrivals.specs.declared.Arrival.the-variants as arrival
 use Rattle.store.specs.declared.Forgetting.the-variants as forgetting
 
 -- ---- how a number moves a window

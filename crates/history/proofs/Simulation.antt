@@ -19,15 +19,17 @@ use Rattle.window.specs.Number.{distanceOf, moveOf, farthestAhead, sequenceNumb
 use Rattle.window.specs.declared.Move.{Move}
 use Rattle.window.proofs.Number.{move-ahead, move-within, move-old}
 use Rattle.places.specs.Place.{placeWord, readPlace, placeAt, highestAt}
-use Rattle.places.specs.Window.{cellAt, newestEmptied, StoreAfter, moved, movedBy, continued, startedAt, updated}
+use Rattle.place_window.specs.Window.{cellAt, newestEmptied, moved, movedBy, continued, startedAt, updated}
+use Rattle.places.specs.After.{StoreAfter}
 use Rattle.places.specs.declared.Holding.{Holding}
 use Rattle.places.proofs.Places.{read-word, read-zero}
 use Rattle.places.proofs.Shape.{shaped-is}
-use Rattle.places.proofs.Moving.{continued-by}
+use Rattle.place_window.proofs.Moving.{continued-by}
 use Rattle.places.proofs.Held.{held-highest}
 use Rattle.cells.specs.Cell.{readCell, wordAfter}
-use Rattle.store.specs.Store.{arrivedAt, arrived, forgottenAt, forgotten, answerOf, placeOf}
-use Rattle.store.specs.declared.Arrival.{Arrival}
+use Rattle.arrivals.specs.Arrivals.{arrivedAt, arrived}
+use Rattle.store.specs.Store.{forgottenAt, forgotten, answerOf, placeOf}
+use Rattle.arrivals.specs.declared.Arrival.{Arrival}
 use Rattle.history.specs.Calls.{Call, arrive, forget, toArrival, toForgetting, Store, storeStep, storeAnswer, storeRun, storeAnswers, CallInRange}
 use Rattle.history.specs.Meaning.{Entry, fullOf, firstFull, cellBy, EntryInRange}
 use Rattle.history.specs.Model.{Place, free, stream, names, isVacant, highestIn, at, findIn, vacantIn, Arrived, refusedIn, addedAt}
@@ -44,7 +46,7 @@ use Rattle.metric.specs.declared.Cell.the-variants.{Empty}
 use Rattle.window.specs.declared.Move.the-variants as move
 use Rattle.lists.specs.declared.Found.the-variants.{At, Nothing}
 use Rattle.places.specs.declared.Holding.the-variants.{Held}
-use Rattle.store.specs.declared.Arrival.the-variants as arrival
+use Rattle.arrivals.specs.declared.Arrival.the-variants as arrival
 
 -- ---- the machine's answer to an arrival at a held place
 module _ (ps : List Place) (k ssrc full mark : ℕ) (time : Time) where

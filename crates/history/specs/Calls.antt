@@ -6,11 +6,12 @@ use mathlib.Core.List.{List, [], _∷_, _++_}
 use lib.Dec.{eqb}
 use Rattle.metric.specs.declared.Time.{Time}
 use Rattle.metric.specs.Metric.{TimeInRange}
-use Rattle.store.specs.Store.{arrived, forgotten}
-use Rattle.store.specs.declared.Arrival.{Arrival}
+use Rattle.arrivals.specs.Arrivals.{arrived}
+use Rattle.store.specs.Store.{forgotten}
+use Rattle.arrivals.specs.declared.Arrival.{Arrival}
 use Rattle.store.specs.declared.Forgetting.{Forgetting}
 use Rattle.window.specs.Number.{sequenceNumbers}
-use Rattle.store.specs.declared.Arrival.the-variants as arrival
+use Rattle.arrivals.specs.declared.Arrival.the-variants as arrival
 use Rattle.store.specs.declared.Forgetting.the-variants as forgetting
 
 -- arrive: SSRC, sequence number, mark, time. forget: SSRC

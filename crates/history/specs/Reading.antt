@@ -5,7 +5,7 @@ use mathlib.Core.List.{List}
 use lib.ListN.{length}
 use Rattle.lists.specs.All.{All}
 use Rattle.places.specs.Place.{placeAt}
-use Rattle.places.specs.Window.{cellAt}
+use Rattle.place_window.specs.Window.{cellAt}
 use Rattle.places.specs.Shape.{Shaped}
 use Rattle.places.specs.declared.Holding.{Holding}
 use Rattle.cells.specs.Cell.{readCell}

@@ -17,7 +17,8 @@ use Rattle.arrival_file.specs.Pieces.{Feeding, feeding, onEntry, taken, takenBe
 use Rattle.arrival_file.specs.declared.Check.{Check}
 use Rattle.arrival_file.specs.declared.Phase.{Phase}
 use Rattle.arrival_file.proofs.Pieces.{pieces}
-use Rattle.intake.specs.Intake.{Recorded, recorded, afterRecord, IntakeAfter, intakeAfter, kept, fedOf, leftOf, fedNext, heldIn}
+use Rattle.recording.specs.Recorded.{Recorded, recorded, afterRecord}
+use Rattle.intake.specs.Intake.{IntakeAfter, intakeAfter, kept, fedOf, leftOf, fedNext, heldIn}
 use Rattle.intake.specs.declared.Intake.{Intake}
 use Rattle.arrival_record.specs.declared.RecordRead.the-variants as entry
 use Rattle.arrival_file.specs.declared.Check.the-variants.{Sound, Refused}

@@ -1,26 +1,21 @@
 -- Laws for the loops of `intake`. Assumes nothing.
 use Prim.Native.Nat.{ℕ, suc, _+_, _-_, _/_, _<_, _≤_}
-use mathlib.Core.Path.{_≡_, sym, ap, _∙_}
+use mathlib.Core.Path.{_≡_, ap, _∙_}
 use mathlib.Core.List.{List, []}
 use native.Mathlib.Omega.{arith}
 use native.Mathlib.Numerals.{add-one}
-use lib.ListN.{length, getD, set, take, drop, length-drop, drop-of-length-le}
-use lib.Seq.{sets, length-sets, take-all, drop-length, drop-cons, drop-drop, drop-set-lt}
+use lib.ListN.{length, getD, set, drop, length-drop, drop-of-length-le}
+use lib.Seq.{sets, length-sets, drop-length, drop-cons, drop-set-lt}
 use borrow.Author.Tests.{lt-ltb, le-ltb}
 use Rattle.refusal.specs.declared.Refusal.{Refusal}
-use Rattle.places.specs.Window.{storeAfter}
-use Rattle.store.specs.Store.{arrived}
-use Rattle.store.specs.declared.Arrival.{Arrival}
-use Rattle.arrival_record.specs.Record.{recordReadOf, recordOctets}
-use Rattle.arrival_record.specs.declared.Record.{Record}
-use Rattle.arrival_record.specs.declared.RecordRead.{RecordRead}
+use Rattle.arrival_record.specs.Record.{recordOctets}
 use Rattle.arrival_file.specs.File.{headerOf, fileHeaderOctets}
 use Rattle.arrival_file.specs.Pieces.{Feeding, feeding, taken, takenHere}
 use Rattle.arrival_file.specs.declared.Phase.{Phase}
-use Rattle.intake.specs.declared.Taken.{Taken}
-use Rattle.intake.specs.Intake.{Recorded, recorded, lastKnown, recordedAfter, afterRecord, intakeAfter, kept}
-use Rattle.intake.specs.Steps.{TakenTo}
-use Rattle.arrival_record.specs.declared.RecordRead.the-variants as entry
+use Rattle.recording.specs.declared.Taken.{Taken}
+use Rattle.recording.specs.Recorded.{Recorded, recorded, afterRecord}
+use Rattle.intake.specs.Intake.{intakeAfter, kept}
+use Rattle.recording.specs.Steps.{TakenTo}
 use Rattle.arrival_file.specs.declared.Phase.the-variants.{Header, Records, Faulty}
 use Rattle.arrival_file.specs.declared.Check.the-variants.{Sound, Refused}
 
@@ -37,55 +32,6 @@ module _ (s : List ℕ) (from i : ℕ) (h : from + i < length s) where
 
 pub none-moved : (s : List ℕ) (from i : ℕ) → length s ≤ from + i → sets s i (drop (from + i) s) ≡ s
 none-moved s from i h = rw (drop-of-length-le s {i = from + i} h)
-
--- ---- records
-
-module _ (s : List ℕ) (at : ℕ) (x : Recorded) where
-  module _ (h : at + recordOctets ≤ length s) where
-    count-more : length (drop at s) / recordOctets ≡ suc (length (drop (at + recordOctets) s) / recordOctets)
-    count-more = omega (arith, length-drop at s, length-drop (at + recordOctets) s)
-
-    pub one-taken : (r : Record) → recordReadOf (drop at s) ≡ entry.Record r
-        → taken afterRecord (length (drop at s) / recordOctets) x (drop at s)
-        ≡ taken afterRecord (length (drop (at + recordOctets) s) / recordOctets) (afterRecord x r) (drop (at + recordOctets) s)
-    unfolding taken
-    one-taken r e = rw (count-more, e, drop-drop recordOctets at s)
-
-    pub none-taken : (q : Refusal) → recordReadOf (drop at s) ≡ entry.Refused q
-        → taken afterRecord (length (drop at s) / recordOctets) x (drop at s) ≡ feeding (Faulty q) x []
-    unfolding taken
-    none-taken q e = rw (count-more, e)
-
-  pub all-taken : length s < at + recordOctets → taken afterRecord (length (drop at s) / recordOctets) x (drop at s) ≡ feeding Records x (drop at s)
-  unfolding taken
-  all-taken h = let z : length (drop at s) / recordOctets ≡ 0 = omega (arith, length-drop at s) in rw z
-
--- the octets starting at an offset, as a part that was lent
-lent : (s : List ℕ) (at : ℕ) → take (length s - at) (drop at s) ≡ drop at s
-lent s at = take-all (length s - at) (drop at s) (omega (arith, length-drop at s))
-
--- a turn of the loop of `take_records`
-module _ (s : List ℕ) (at : ℕ) (places cells : List ℕ) (last : ℕ) (h : at + recordOctets ≤ length s) (y : RecordRead)
-    (read : y ≡ recordReadOf (take (length s - at) (drop at s))) where
-  pub turn-record : (r : Record) (a : Arrival) (places′ cells′ : List ℕ) (last′ : ℕ) → y ≡ entry.Record r
-      → storeAfter a places′ cells′ ≡ arrived places cells (r .ssrc) (r .number) (r .mark) (r .time)
-      → last′ ≡ lastKnown last (r .time)
-      → taken afterRecord (length (drop (at + recordOctets) s) / recordOctets) (recorded places′ cells′ last′) (drop (at + recordOctets) s)
-      ≡ taken afterRecord (length (drop at s) / recordOctets) (recorded places cells last) (drop at s)
-  unfolding afterRecord
-  turn-record r a places′ cells′ last′ e is known =
-      let x : recorded places′ cells′ last′ ≡ afterRecord (recorded places cells last) r =
-      ap (λ o. recordedAfter o last′) is ∙ ap (recordedAfter (arrived places cells (r .ssrc) (r .number) (r .mark) (r .time))) known in
-      rw x (sym (one-taken s at (recorded places cells last) h r (sym (read ∙ ap recordReadOf (lent s at)) ∙ e)))
-
-  pub turn-refused : (q : Refusal) (f : Feeding Recorded) → y ≡ entry.Refused q
-      → taken afterRecord (length (drop at s) / recordOctets) (recorded places cells last) (drop at s) ≡ f
-      → TakenTo places cells s (record { phase = Faulty q; rts = last; at = length s }) f
-  turn-refused q f e i =
-      record {
-        within = omega arith;
-        is = rw (drop-length s) (sym (none-taken s at (recorded places cells last) h q (sym (read ∙ ap recordReadOf (lent s at)) ∙ e)) ∙ i);
-      }
 
 -- ---- a file
 

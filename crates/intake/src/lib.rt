@@ -1,18 +1,16 @@
-// Takes the records of an arrival file into a store, piece by piece.
+// Takes an arrival file into a store, piece by piece.
 ghost use mathlib.Core.Path.{_≡_};
-ghost use Prim.Native.Nat.{_/_, _≤_};
+ghost use Prim.Native.Nat.{_≤_};
 ghost use lib.ListN.{length, drop};
 ghost use lib.Seq.{sets};
-ghost use Rattle.arrival_record.specs.Record.{recordOctets};
-ghost use Rattle.arrival_file.specs.Pieces.{taken, takenHere};
-ghost use Rattle.intake.specs.Intake.{lastKnown, recorded, afterRecord, atStart, intakeAfter, fedOf};
-ghost use Rattle.intake.specs.Steps.{TakenTo};
+ghost use Rattle.arrival_file.specs.Pieces.{takenHere};
+ghost use Rattle.recording.specs.Recorded.{recorded, afterRecord};
+ghost use Rattle.recording.specs.Steps.{TakenTo};
+ghost use Rattle.intake.specs.Intake.{atStart, intakeAfter, fedOf};
 use arrival_file::Check;
 use arrival_file::FILE_HEADER_OCTETS;
 use arrival_file::Phase;
-use arrival_record::RECORD_OCTETS;
-use arrival_record::RecordRead;
-use metric::Time;
+use recording::Taken;
 
 // Where the taking of a file stands: its phase, RTS (the last known time so far, else 0), and how many octets are not
 // taken yet.
@@ -20,13 +18,6 @@ pub struct Intake {
     pub phase: Phase,
     pub rts: u32,
     pub left: usize,
-}
-
-// How far the octets at hand were taken: `at` is the offset of the first that was not.
-pub struct Taken {
-    pub phase: Phase,
-    pub rts: u32,
-    pub at: usize,
 }
 
 // Before the first piece.
@@ -37,51 +28,6 @@ pub fn start() -> Intake
         phase: Phase::Header,
         rts: 0,
         left: 0,
-    }
-}
-
-// RTS after a record with this time.
-fn last_known(rts: u32, time: Time) -> u32
-    ensures value { λ r. ⌜ r ≡ lastKnown rts time ⌝ }
-{
-    match time {
-        Time::Unknown => rts,
-        Time::Known(t) => t,
-    }
-}
-
-// Takes the whole records starting at an offset, up to the first with a fault.
-fn take_records(places: &mut [u64], cells: &mut [u64], s: &[u8], from: usize, rts: u32) -> Taken
-    requires within { ⌜ from ≤ length (now s) ⌝ }
-    ensures after { λ r. ⌜
-        TakenTo (now (places .exit)) (now (cells .exit)) (now (s .entry)) r
-        (taken afterRecord (length (drop from (now (s .entry))) / recordOctets)
-        (recorded (now (places .entry)) (now (cells .entry)) rts) (drop from (now (s .entry)))) ⌝ }
-{
-    let mut at = from;
-    let mut last = rts;
-    while RECORD_OCTETS <= s.len() - at {
-        let here = arrival_record::read_record(&s[at..]);
-        match here {
-            RecordRead::Record(r) => {
-                let time = r.time;
-                store::arrive(places, cells, r.ssrc, r.number, r.mark, time);
-                last = last_known(last, time);
-                at += RECORD_OCTETS;
-            }
-            RecordRead::Refused(e) => {
-                return Taken {
-                    phase: Phase::Faulty(e),
-                    rts: last,
-                    at: s.len(),
-                };
-            }
-        }
-    }
-    Taken {
-        phase: Phase::Records,
-        rts: last,
-        at: at,
     }
 }
 
@@ -100,7 +46,7 @@ fn take_file(places: &mut [u64], cells: &mut [u64], s: &[u8], rts: u32) -> Taken
     }
     let header = arrival_file::check_header(s);
     match header {
-        Check::Sound => take_records(places, cells, s, FILE_HEADER_OCTETS, rts),
+        Check::Sound => recording::take_records(places, cells, s, FILE_HEADER_OCTETS, rts),
         Check::Refused(e) => Taken {
             phase: Phase::Faulty(e),
             rts: rts,
@@ -117,7 +63,7 @@ fn take(places: &mut [u64], cells: &mut [u64], s: &[u8], phase: Phase, rts: u32)
 {
     match phase {
         Phase::Header => take_file(places, cells, s, rts),
-        Phase::Records => take_records(places, cells, s, 0, rts),
+        Phase::Records => recording::take_records(places, cells, s, 0, rts),
         Phase::Faulty(e) => Taken {
             phase: Phase::Faulty(e),
             rts: rts,

@@ -1,2 +1,2 @@
-pub mod OnePacket
+pub mod Ends
 pub mod Newest

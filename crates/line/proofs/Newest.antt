@@ -1,6 +1,6 @@
 -- Gathering the requests, place by place. Assumes nothing.
 use Prim.Native.Nat.{ℕ, _+_, _<_, _≤_}
-use mathlib.Core.Path.{_≡_, sym, ap, _∙_}
+use mathlib.Core.Path.{_≡_, refl, sym, ap, _∙_}
 use mathlib.Core.Bool.{false}
 use mathlib.Core.List.{List, [], _∷_, _++_, append-nil, append-assoc}
 use native.Mathlib.Omega.{arith}
@@ -14,6 +14,7 @@ use Rattle.places.specs.Shape.{shaped, mostPlaces}
 use Rattle.places.specs.declared.Holding.{Holding}
 use Rattle.cutting.specs.declared.Request.{Request}
 use Rattle.line_text.specs.Text.{refusedLine}
+use Rattle.line_report.specs.Report.{FourEach, requestedText}
 use Rattle.line.specs.Line.{newestFour, askedOf, newest, reportText}
 use Rattle.places.specs.declared.Holding.the-variants.{Free, Held}
 
@@ -64,7 +65,17 @@ module _ (places : List ℕ) (requests : List Request) (n i : ℕ) (g : Gatherin
         gather-held places requests n i there h read ssrc highest begin e b (omega arith) ∙ g .4,
       )
 
+-- each request is of four numbers
+asked-four : (h : Holding) (rs : List Request) → FourEach rs → FourEach (askedOf h rs)
+asked-four Free rs f = f
+asked-four (Held ssrc highest) rs f = (refl, f)
+
+pub newest-four : (places : List ℕ) → FourEach (newest places)
+unfolding newest
+newest-four [] = tt
+newest-four (word ∷ places) = asked-four (readPlace word) (newest places) (newest-four places)
+
 -- a store whose shape is wrong
 pub misshapen-text : (places cells : List ℕ) (rts : ℕ) → shaped places cells ≡ false → reportText places cells rts ≡ refusedLine BadStore
-unfolding reportText
+unfolding requestedText
 misshapen-text places cells rts e = rw e

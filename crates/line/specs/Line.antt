@@ -1,29 +1,20 @@
--- What ccfbline prints once all of a file was taken, for any store: a packet as a line of hex, or a refusal.
-use Prim.Native.Nat.{ℕ, _+_, _-_, _*_}
-use mathlib.Core.Bool.{cond}
-use mathlib.Core.List.{List, [], _∷_, _++_}
-use Rattle.refusal.specs.declared.Refusal.the-variants.{BadStore}
-use Rattle.window.specs.Number.{distanceOf}
-use Rattle.places.specs.Place.{readPlace}
-use Rattle.places.specs.Shape.{shaped}
-use Rattle.places.specs.declared.Holding.{Holding}
-use Rattle.cutting.specs.declared.Request.{Request}
-use Rattle.requests.specs.Requests.{checked}
-use Rattle.requests.specs.declared.Verdict.{Verdict}
-use Rattle.blocks.specs.Packets.{packetsFor}
+-- What ccfbline prints once all of a file was taken, for any store: the report on the newest four numbers of each stream,
+-- or the file's refusal.
+use Prim.Native.Nat.{ℕ, _-_}
+use mathlib.Core.List.{List, [], _∷_}
 use Rattle.arrival_file.specs.File.{endOf}
 use Rattle.arrival_file.specs.declared.Check.{Check}
 use Rattle.intake.specs.declared.Intake.{Intake}
-use Rattle.line_text.specs.Text.{hexLine, refusedLine}
-use Rattle.places.specs.declared.Holding.the-variants.{Free, Held}
-use Rattle.packet.specs.Packet as packet
-use Rattle.requests.specs.declared.Verdict.the-variants as verdict
+use Rattle.line_text.specs.Text.{refusedLine}
 use Rattle.arrival_file.specs.declared.Check.the-variants as check
+use Rattle.line_report.specs.Report.{newestNumbers, requestedLines, requestedText}
+use Rattle.window.specs.Number.{distanceOf}
+use Rattle.places.specs.Place.{readPlace}
+use Rattle.places.specs.declared.Holding.{Holding}
+use Rattle.cutting.specs.declared.Request.{Request}
+use Rattle.places.specs.declared.Holding.the-variants.{Free, Held}
 
 -- ---- the newest four numbers of each stream, in place order
-
-abbrev pub newestNumbers : ℕ
-newestNumbers = 4
 
 -- the four numbers that end with the highest
 abbrev pub newestFour : ℕ → ℕ → Request
@@ -39,38 +30,13 @@ newest (word ∷ places) = askedOf (readPlace word) (newest places)
 
 -- ---- the report
 
--- each packet is one line
-unfoldable pub linesOf : List packet.Packet → List ℕ
-linesOf [] = []
-linesOf (p ∷ ps) = hexLine (packet.encodePacket p) ++ linesOf ps
-
--- the SSRC of the packet's sender, and the limit of a packet in octets
-abbrev pub lineSender : ℕ
-lineSender = 0x000000F1
-
-abbrev pub lineLimit : ℕ
-lineLimit = 1200
-
 abbrev pub reportLines : List ℕ → List ℕ → ℕ → List ℕ
-reportLines places cells rts = linesOf (packetsFor places cells lineSender rts lineLimit (newest places))
+reportLines places cells rts = requestedLines places cells rts (newest places)
 
--- room for a packet on 16 streams, four numbers of each: 16 blocks of 16 octets, and 12 octets besides
-abbrev pub packetRoom : ℕ
-packetRoom = 268
+abbrev pub reportText : List ℕ → List ℕ → ℕ → List ℕ
+reportText places cells rts = requestedText places cells rts (newest places)
 
--- room for its line: two digits for each octet, and the newline
-abbrev pub lineRoom : ℕ
-lineRoom = 2 * packetRoom + 1
-
--- ---- any store: the writer may refuse it
-
-abbrev pub ifReported : Verdict → List ℕ → List ℕ
-ifReported verdict.Sound text = text
-ifReported (verdict.Fault e) text = refusedLine e
-
-unfoldable pub reportText : List ℕ → List ℕ → ℕ → List ℕ
-reportText places cells rts =
-    cond (shaped places cells) (ifReported (checked places [] (newest places)) (reportLines places cells rts)) (refusedLine BadStore)
+-- ---- the end of a file
 
 abbrev pub ifWhole : Check → List ℕ → List ℕ
 ifWhole check.Sound text = text

@@ -15,10 +15,10 @@ use Rattle.metric.specs.Metric.{congested}
 use Rattle.window.specs.Ring.{cellsOfAPlace}
 use Rattle.places.specs.Place.{placeAt}
 use Rattle.places.specs.Shape.{Shaped, Misshapen}
-use Rattle.places.specs.Window.{StoreAfter}
+use Rattle.places.specs.After.{StoreAfter}
 use Rattle.places.proofs.Shape.{shaped-is, misshapen-is}
-use Rattle.store.specs.Store.{arrived}
-use Rattle.store.specs.declared.Arrival.{Arrival}
+use Rattle.arrivals.specs.Arrivals.{arrived}
+use Rattle.arrivals.specs.declared.Arrival.{Arrival}
 use Rattle.history.specs.Calls.{Store, CallInRange, storeRun}
 use Rattle.history.specs.Reading.{Fresh}
 use Rattle.history.proofs.Simulation.{zeroed-fresh}
@@ -28,12 +28,14 @@ use Rattle.arrival_record.specs.declared.Record.{Record}
 use Rattle.arrival_file.specs.File.{Result, sound, faulty, endOf, fileOf}
 use Rattle.arrival_file.specs.Pieces.{resultOf, ended, allTaken, takenHere}
 use Rattle.arrival_file.specs.declared.Check.{Check}
-use Rattle.intake.specs.Intake.{Recorded, recorded, lastKnown, afterRecord, leftOf, fedNext, heldIn}
+use Rattle.recording.specs.Recorded.{Recorded, recorded, lastKnown, afterRecord}
+use Rattle.intake.specs.Intake.{leftOf, fedNext, heldIn}
 use Rattle.intake.specs.declared.Intake.{Intake}
 use Rattle.intake.proofs.Pieces.{all-calls, calls-left}
 use Rattle.line_text.specs.Text.{refusedLine, putText}
 use Rattle.line_store.specs.Fresh.{freshPlaces, freshCells, linePlaces}
-use Rattle.line.specs.Line.{reportText, ifWhole, finishedText}
+use Rattle.line_report.specs.Report.{requestedText}
+use Rattle.line.specs.Line.{ifWhole, finishedText, reportText}
 use Rattle.line.specs.Printed.{fresh, reportOf, printedOf, printed}
 use Rattle.line_laws.specs.Laws.{Answered, LastTime, fedPieces}
 use Rattle.line_laws.proofs.Records.{callOf, InRange, file-range, calls-range}
@@ -41,7 +43,6 @@ use Rattle.line_laws.proofs.Streams.{sound-requests}
 use Rattle.metric.specs.declared.Time.the-variants.{Unknown, Known}
 use Rattle.places.specs.declared.Holding.the-variants.{Held}
 use Rattle.history.specs.Refusals as given
-use Rattle.requests.specs.declared.Verdict.the-variants.{Sound}
 use Rattle.arrival_file.specs.declared.Phase.the-variants.{Faulty}
 use Rattle.arrival_file.specs.declared.Check.the-variants as check
 use Rattle.intake.specs.Intake as intake
@@ -77,7 +78,7 @@ reached rs range =
 
 -- the writer refuses nothing
 report-is : (x : Recorded) → Reached x → reportText (x .places) (x .cells) (x .rts) ≡ reportOf x
-unfolding reportText
+unfolding requestedText
 report-is x r = rw (shaped-is (x .places) (x .cells) (r .shape), sound-requests (x .places) (r .once))
 
 -- ---- what is printed

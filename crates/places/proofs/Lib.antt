@@ -1,4 +1,3 @@
 pub mod Places
 pub mod Shape
 pub mod Held
-pub mod Moving

@@ -1,4 +1,4 @@
 pub mod Place
 pub mod Shape
 pub mod Held
-pub mod Window
+pub mod After

@@ -1,73 +1,20 @@
 -- Each call in each of its cases. Assumes nothing.
-use Prim.Native.Nat.{ℕ, _+_, _*_, _<_, _≤_, min}
-use mathlib.Core.Path.{_≡_, _∙_}
+use Prim.Native.Nat.{ℕ, _≤_}
+use mathlib.Core.Path.{_≡_}
 use mathlib.Core.Bool.{true, false}
 use mathlib.Core.List.{List}
 use native.Mathlib.Omega.{arith}
-use borrow.Author.Tests.{lt-ltb, le-ltb}
 use lib.ListN.{length, set, List·getD-eq-default}
 use Rattle.lists.specs.declared.Found.the-variants.{At, Nothing}
-use Rattle.refusal.specs.declared.Refusal.the-variants.{BadMark, NoFreePlace, BadStore, NotHeld}
-use Rattle.metric.specs.declared.Time.{Time}
-use Rattle.window.specs.Number.{moveOf}
-use Rattle.window.specs.Ring.{cellsOfAPlace}
-use Rattle.window.proofs.Number.{ahead-is}
-use Rattle.places.specs.Place.{placeWord, placeAt, highestAt, findOf, freeOf}
-use Rattle.places.specs.Shape.{shaped, Ready}
-use Rattle.places.specs.Window.{opened, storeAfter, placesAfter, moved, continued}
+use Rattle.refusal.specs.declared.Refusal.the-variants.{BadStore, NotHeld}
+use Rattle.places.specs.Place.{placeAt, findOf}
+use Rattle.places.specs.Shape.{shaped}
+use Rattle.places.specs.After.{placesAfter}
 use Rattle.places.specs.declared.Holding.{Holding}
 use Rattle.places.proofs.Places.{read-zero}
-use Rattle.places.proofs.Moving.{opened-updated, continued-by}
-use Rattle.cells.specs.Cell.{filledWord, wordAfter}
-use Rattle.cells.proofs.Words.{after-empty}
-use Rattle.store.specs.Store.{arrivalRefused, arrived, forgotten, answerOf, placeOf}
-use Rattle.metric.specs.Metric.{congested}
-use Rattle.window.specs.declared.Move.the-variants.{Ahead}
-use Rattle.store.specs.declared.Arrival.the-variants.{Accepted, Refused}
+use Rattle.store.specs.Store.{forgotten, answerOf, placeOf}
 use Rattle.store.specs.declared.Forgetting.the-variants as forgetting
 use Rattle.store.specs.declared.PlaceAnswer.the-variants as answer
-
--- the window that is opened for an arrival
-pub moved-opened : (places cells : List ℕ) (p ssrc number n mark : ℕ) (time : Time) → Ready places cells p → 0 < n → n ≤ cellsOfAPlace
-    → storeAfter Accepted (set places p (placeWord ssrc number)) (opened cells p number n (filledWord mark time))
-    ≡ moved Accepted Refused (wordAfter mark time) places cells p ssrc number n
-unfolding moved
-moved-opened places cells p ssrc number n mark time r some few =
-    let room : cellsOfAPlace * p + cellsOfAPlace ≤ length cells = omega (arith, r .sized, r .there) in
-    rw (opened-updated cells p number n some few (wordAfter mark time) room, after-empty 0 mark time (omega arith))
-
-pub continued-ahead : (places cells : List ℕ) (p ssrc number mark : ℕ) (time : Time) → Ready places cells p
-    → (f : ℕ) → moveOf (highestAt places p) number ≡ Ahead f
-    → storeAfter Accepted (set places p (placeWord ssrc number)) (opened cells p number (min f cellsOfAPlace) (filledWord mark time))
-    ≡ continued Accepted Refused (wordAfter mark time) places cells p ssrc number
-continued-ahead places cells p ssrc number mark time r f e =
-    let known = ahead-is (highestAt places p) number f e in
-    moved-opened places cells p ssrc number (min f cellsOfAPlace) mark time r (omega (arith, known .1)) (omega arith)
-    ∙ continued-by Accepted Refused (wordAfter mark time) places cells p ssrc number (Ahead f) e
-
-module _ (places cells : List ℕ) (ssrc number mark : ℕ) (time : Time) where
-  pub arrived-misshapen : shaped places cells ≡ false → arrivalRefused BadStore places cells ≡ arrived places cells ssrc number mark time
-  arrived-misshapen s = rw s
-
-  module _ (s : shaped places cells ≡ true) where
-    pub arrived-bad-mark : congested < mark → arrivalRefused BadMark places cells ≡ arrived places cells ssrc number mark time
-    arrived-bad-mark m = rw (s, lt-ltb congested mark m)
-
-    module _ (low : mark ≤ congested) where
-      pub arrived-known : (p : ℕ) → findOf places ssrc ≡ At p
-          → continued Accepted Refused (wordAfter mark time) places cells p ssrc number ≡ arrived places cells ssrc number mark time
-      arrived-known p f = rw (s, le-ltb congested mark low, f)
-
-      pub arrived-new : (p : ℕ) → findOf places ssrc ≡ Nothing → freeOf places ≡ At p → Ready places cells p
-          → storeAfter Accepted (set places p (placeWord ssrc number)) (opened cells p number cellsOfAPlace (filledWord mark time))
-          ≡ arrived places cells ssrc number mark time
-      arrived-new p f o r =
-          moved-opened places cells p ssrc number cellsOfAPlace mark time r (omega arith) (omega arith)
-          ∙ rw (s, le-ltb congested mark low, f, o)
-
-      pub arrived-full : findOf places ssrc ≡ Nothing → freeOf places ≡ Nothing
-          → arrivalRefused NoFreePlace places cells ≡ arrived places cells ssrc number mark time
-      arrived-full f o = rw (s, le-ltb congested mark low, f, o)
 
 module _ (places cells : List ℕ) (ssrc : ℕ) where
   pub forgotten-misshapen : shaped places cells ≡ false → placesAfter (forgetting.Refused BadStore) places ≡ forgotten places cells ssrc

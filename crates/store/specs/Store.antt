@@ -3,44 +3,21 @@ use Prim.Native.Nat.{ℕ}
 use mathlib.Core.Bool.{cond}
 use mathlib.Core.List.{List}
 use lib.ListN.{set}
-use lib.Dec.{ltb}
 use Rattle.lists.specs.declared.Found.{Found}
-use Rattle.refusal.specs.declared.Refusal.{Refusal}
-use Rattle.metric.specs.Metric.{congested, encodeOf}
-use Rattle.metric.specs.declared.Time.{Time}
+use Rattle.metric.specs.Metric.{encodeOf}
 use Rattle.places.specs.Place.{placeAt, findOf}
 use Rattle.places.specs.Shape.{shaped}
-use Rattle.places.specs.Window.{cellAt, StoreAfter, storeAfter, PlacesAfter, placesAfter, admittedAt}
+use Rattle.place_window.specs.Window.{cellAt}
+use Rattle.places.specs.After.{PlacesAfter, placesAfter}
 use Rattle.places.specs.declared.Holding.{Holding}
-use Rattle.cells.specs.Cell.{readCell, wordAfter}
-use Rattle.store.specs.declared.Arrival.{Arrival}
+use Rattle.cells.specs.Cell.{readCell}
 use Rattle.store.specs.declared.Forgetting.{Forgetting}
 use Rattle.store.specs.declared.PlaceAnswer.{PlaceAnswer}
 use Rattle.lists.specs.declared.Found.the-variants.{At, Nothing}
-use Rattle.refusal.specs.declared.Refusal.the-variants.{BadMark, BadStore, NotHeld}
+use Rattle.refusal.specs.declared.Refusal.the-variants.{BadStore, NotHeld}
 use Rattle.places.specs.declared.Holding.the-variants.{Free, Held}
-use Rattle.store.specs.declared.Arrival.the-variants as arrival
 use Rattle.store.specs.declared.Forgetting.the-variants as forgetting
 use Rattle.store.specs.declared.PlaceAnswer.the-variants as answer
-
--- ---- an arrival: refusals 4, 1, then 3 or 2
-
--- a refused arrival leaves the store as it was
-abbrev pub arrivalRefused : Refusal → List ℕ → List ℕ → StoreAfter Arrival
-arrivalRefused e places cells = storeAfter (arrival.Refused e) places cells
-
--- an arrival of a stream, by where it was found; at the cell of its number it makes the word `wordAfter`
-abbrev pub arrivedAt : Found → List ℕ → List ℕ → ℕ → ℕ → ℕ → Time → StoreAfter Arrival
-arrivedAt found places cells ssrc number mark time =
-    admittedAt arrival.Accepted arrival.Refused (wordAfter mark time) found places cells ssrc number
-
-abbrev pub arrived : List ℕ → List ℕ → ℕ → ℕ → ℕ → Time → StoreAfter Arrival
-arrived places cells ssrc number mark time =
-    cond (shaped places cells)
-    (cond (ltb congested mark)
-    (arrivalRefused BadMark places cells)
-    (arrivedAt (findOf places ssrc) places cells ssrc number mark time))
-    (arrivalRefused BadStore places cells)
 
 -- ---- forgetting a stream frees its place: refusals 4, 5
 

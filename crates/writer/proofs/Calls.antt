@@ -16,9 +16,9 @@ use Rattle.places.specs.Shape.{shaped}
 use Rattle.cutting.specs.Cutting.{CutPacket, Cutting, allBlocks, numbersFrom, streamOf}
 use Rattle.cutting.specs.Limits.{leastLimit, mostLimit, mostRequests}
 use Rattle.cutting.specs.Plan.{plan, totalOctets}
-use Rattle.cutting.specs.Measure.{Measures}
+use Rattle.plan_size.specs.Measure.{Measures}
 use Rattle.cutting.specs.declared.Request.{Request}
-use Rattle.cutting.specs.declared.Total.{Total}
+use Rattle.plan_size.specs.declared.Total.{Total}
 use Rattle.cutting.proofs.ToRules.{plan-known}
 use Rattle.requests.specs.declared.Verdict.{Verdict}
 use Rattle.requests.specs.Requests.{checked}

@@ -15,7 +15,7 @@ use Rattle.metric.specs.Metric.{decodeOf}
 use Rattle.metric.proofs.Decoded.{reads-not-received}
 use Rattle.metric.proofs.ReadBack.{decode-encode}
 use Rattle.places.specs.Place.{findOf}
-use Rattle.places.specs.Window.{cellAt}
+use Rattle.place_window.specs.Window.{cellAt}
 use Rattle.cells.specs.Cell.{readCell}
 use Rattle.store.specs.Store.{cellMetric}
 use Rattle.packet.specs.Sizes.{blocksOctets}

@@ -20,7 +20,7 @@ use Rattle.cutting.specs.declared.Request.{Request}
 use Rattle.blocks.specs.Packets.{storeMetric, reportPacket, encodePackets, packetsFor}
 use Rattle.writer.specs.Written.{writingRefused, putPackets, written}
 use Rattle.writer.specs.declared.Answer.{Answer}
-use Rattle.writer.proofs.Packets.{length-report}
+use Rattle.packets.proofs.Packets.{length-report}
 use Rattle.writer.proofs.Calls.{bad-store, limit-low, limit-high, too-many, unsound, sound}
 use Rattle.writer_laws.specs.Refused.{AllSound, none, Proper, WritingGiven, badStore, badLimit, tooMany, inRequest, tooShort}
 use Rattle.writer_laws.proofs.Requests.{sound-checked, fault-checked, checked-cases}

@@ -11,7 +11,7 @@ use Rattle.metric.proofs.Table.{after-row, over-row, else-row}
 use Rattle.window.specs.Number.{sequenceNumbers}
 use Rattle.window.specs.Ring.{cellsOfAPlace}
 use Rattle.places.specs.Place.{findOf}
-use Rattle.places.specs.Window.{cellAt}
+use Rattle.place_window.specs.Window.{cellAt}
 use Rattle.cells.specs.Cell.{readCell}
 use Rattle.store.specs.Store.{cellMetric}
 use Rattle.packet.specs.Sizes.{blockOctets, packetOctets}
@@ -22,7 +22,7 @@ use Rattle.cutting.specs.declared.Request.{Request}
 use Rattle.cutting.proofs.Plan.{filled-none, filled-cases}
 use Rattle.blocks.specs.Packets.{storeMetricAt, storeMetric, reportBlock, reportPacket}
 use Rattle.blocks.proofs.Metrics.{length-of}
-use Rattle.writer.proofs.Packets.{blocks-octets, packet-fits}
+use Rattle.packets.proofs.Packets.{blocks-octets, packet-fits}
 use Rattle.metric.specs.declared.Time.the-variants.{Unknown, Known}
 use Rattle.metric.specs.declared.Cell.the-variants.{Empty, Filled}
 use Rattle.lists.specs.declared.Found.the-variants.{At, Nothing}

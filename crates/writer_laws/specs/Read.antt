@@ -13,7 +13,7 @@ use Rattle.metric.specs.Metric.{seenOf}
 use Rattle.metric.specs.declared.Metric.{Metric}
 use Rattle.window.specs.Number.{sequenceNumbers}
 use Rattle.places.specs.Place.{findOf}
-use Rattle.places.specs.Window.{cellAt}
+use Rattle.place_window.specs.Window.{cellAt}
 use Rattle.cells.specs.Cell.{readCell}
 use Rattle.walk.specs.Walk.{Walked, walked, stopped, walkOf}
 use Rattle.walk.specs.declared.ReportBlock.{ReportBlock}

@@ -2,8 +2,8 @@
 use mathlib.Core.Path.{ap, _∙_}
 use Prim.Native.Nat.{ℕ}
 use Rattle.metric.specs.declared.Time.{Time}
-use Rattle.places.specs.Window.{storeAfter}
-use Rattle.store.specs.Store.{arrived}
+use Rattle.places.specs.After.{storeAfter}
+use Rattle.arrivals.specs.Arrivals.{arrived}
 use Rattle.ccfb_store.specs.Arrivals.{arriveCalled}
 use borrow.Author.Needs.{needs}
 use Rattle.ccfb_store.proofs.ccfb_arrive.Statement.{statement}

@@ -1,7 +1,7 @@
 -- `ccfb_store::ccfb_forget` meets its contract. Assumes nothing.
 use mathlib.Core.Path.{ap, _∙_}
 use Prim.Native.Nat.{ℕ}
-use Rattle.places.specs.Window.{placesAfter}
+use Rattle.places.specs.After.{placesAfter}
 use Rattle.ccfb_store.specs.Arrivals.{forgetCalled}
 use borrow.Author.Needs.{needs}
 use Rattle.ccfb_store.proofs.ccfb_forget.Statement.{statement}

@@ -1,5 +1,6 @@
 -- `line::finish` meets its contract. Assumes nothing.
-use Rattle.line.proofs.OnePacket.{whole-text, faulty-text, put-as, put-refused}
+use Rattle.line.proofs.Ends.{whole-text, faulty-text}
+use Rattle.line_report.proofs.OnePacket.{put-as, put-refused}
 use borrow.Author.Needs.{needs}
 use Rattle.line.proofs.finish.Statement.{statement}
 use Rattle.line.proofs.finish.Tie as tie

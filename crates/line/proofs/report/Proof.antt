@@ -1,14 +1,15 @@
 -- `line::report` meets its contract. The invariant: the requests so far and those of the places still to be read are all. Assumes nothing.
 use Prim.Native.Nat.{_-_}
-use mathlib.Core.Path.{refl, sym, _∙_}
+use mathlib.Core.Path.{_≡_, refl, sym, _∙_}
 use mathlib.Core.Logic.{⊎-elim}
 use native.Mathlib.Omega.{arith}
 use borrow.Author.Needs.{needs}
 use borrow.Author.Tests.{not-true, not-false}
-use lib.ListN.{length}
+use lib.ListN.{length, take}
 use Rattle.places.proofs.Shape.{is-shaped}
-use Rattle.line.proofs.OnePacket.{put-refused}
-use Rattle.line.proofs.Newest.{Gathering, turn-free, turn-held, gather-all, misshapen-text}
+use Rattle.line_report.proofs.OnePacket.{put-refused}
+use Rattle.line.specs.Line.{newest}
+use Rattle.line.proofs.Newest.{Gathering, turn-free, turn-held, gather-all, newest-four, misshapen-text}
 use Rattle.line.proofs.report.Statement.{statement}
 use Rattle.line.proofs.report.Tie as tie
 
@@ -62,17 +63,25 @@ loop-again c =
     (λ w. turn-free places (l .requests) (l .n) (l .i) (l .inv) (omega arith) _ read _ _ (w .1 .given .1) (w .2) (w .3))
     (c .match .came)
 
+-- after the loop the requests are those for all places
+asked : (c : tie.After-loop Inv-loop μ-loop)
+    → let after-shared-slice-known2 = c .before .before .before .before .before in
+    let args = after-shared-slice-known2 .before .before .args in
+    take (c .before .loop .n) (c .before .loop .requests) ≡ newest (args .places .now)
+asked c =
+    let l = c .before .loop in
+    gather-all _ (l .requests) (l .n) (l .i) _ (c .loop-test .left) (l .inv .4)
+
 put-report-requires : tie.Need-put-report-requires Inv-loop μ-loop
 put-report-requires c κs =
-    let at-loop = c .before .before in
-    let after-shared-slice-known2 = at-loop .before .before .before .before in
-    let args = after-shared-slice-known2 .before .before .args in
-    let pre = after-shared-slice-known2 .before .before .pre in
-    let l = at-loop .loop in
-    (omega arith, (gather-all (args .places .now) (l .requests) (l .n) (l .i) _ (c .before .loop-test .left) (l .inv .4), pre))
+    let after-shared-slice-known2 = c .before .before .before .before .before .before in
+    let start = after-shared-slice-known2 .before .before in
+    (omega arith, (rw (asked (c .before)) (newest-four (start .args .places .now)), start .pre))
 
 returns-2 : tie.Need-returns-2 Inv-loop μ-loop
-returns-2 c = c .before .before .put-report .ensures
+returns-2 c =
+    let reported = c .before .before in
+    rw (← asked (reported .before .before)) (reported .put-report .ensures)
 
 pub report-spec : {M : Type 1} → statement M
 report-spec =

@@ -1,0 +1,44 @@
+// The window of a place, over any word of a cell: a ring of words, where a number's word stands in it, and how the window
+// moves on.
+ghost use mathlib.Core.Path.{_≡_};
+ghost use Prim.Native.Nat.{_+_, _*_, _^_, _≤_, _<_};
+ghost use lib.ListN.{set};
+ghost use Rattle.window.specs.Ring.{cellsOfAPlace};
+ghost use Rattle.places.specs.Place.{placeWord};
+ghost use Rattle.places.specs.Shape.{Ready};
+ghost use Rattle.place_window.specs.Window.{cellIndex, opened};
+use places::HELD;
+use places::SSRC_UNIT;
+use window::CELLS_OF_A_PLACE;
+
+// Where the cell of a number of the place p stands.
+pub fn cell_index(p: usize, number: u16) -> usize
+    requires small { ⌜ cellsOfAPlace * p + cellsOfAPlace < 2 ^ 64 ⌝ }
+    ensures value { λ r. ⌜ r ≡ cellIndex p number ⌝ }
+{
+    CELLS_OF_A_PLACE * p + (number as usize) % CELLS_OF_A_PLACE
+}
+
+// The place p takes number as the highest of the stream, and n numbers come into its window: their cells are emptied.
+// The number's own cell is written once: it gets word.
+pub fn open_window(
+    places: &mut [u64],
+    cells: &mut [u64],
+    p: usize,
+    ssrc: u32,
+    number: u16,
+    n: usize,
+    word: u64,
+)
+    requires ready { ⌜ Ready (now places) (now cells) p ⌝ }
+    requires some { ⌜ 0 < n ⌝ }
+    requires few { ⌜ n ≤ cellsOfAPlace ⌝ }
+    ensures place { λ _. ⌜ now (places .exit) ≡ set (now (places .entry)) p (placeWord ssrc number) ⌝ }
+    ensures window { λ _. ⌜ now (cells .exit) ≡ opened (now (cells .entry)) p number n word ⌝ }
+{
+    let at = cell_index(p, number);
+    let first = (number as usize) + (CELLS_OF_A_PLACE + 1) - n;
+    window::empty_run(cells, CELLS_OF_A_PLACE * p, first, n - 1);
+    cells[at] = word;
+    places[p] = HELD + SSRC_UNIT * (ssrc as u64) + (number as u64);
+}

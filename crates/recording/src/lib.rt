@@ -1,0 +1,64 @@
+// Takes whole records of an arrival file into a store: each is an arrival, and the last known time is kept.
+ghost use mathlib.Core.Path.{_≡_};
+ghost use Prim.Native.Nat.{_/_, _≤_};
+ghost use lib.ListN.{length, drop};
+ghost use Rattle.arrival_record.specs.Record.{recordOctets};
+ghost use Rattle.arrival_file.specs.Pieces.{taken};
+ghost use Rattle.recording.specs.Recorded.{lastKnown, recorded, afterRecord};
+ghost use Rattle.recording.specs.Steps.{TakenTo};
+use arrival_file::Phase;
+use arrival_record::RECORD_OCTETS;
+use arrival_record::RecordRead;
+use metric::Time;
+
+// How far the octets at hand were taken: `at` is the offset of the first that was not.
+pub struct Taken {
+    pub phase: Phase,
+    pub rts: u32,
+    pub at: usize,
+}
+
+// RTS after a record with this time.
+fn last_known(rts: u32, time: Time) -> u32
+    ensures value { λ r. ⌜ r ≡ lastKnown rts time ⌝ }
+{
+    match time {
+        Time::Unknown => rts,
+        Time::Known(t) => t,
+    }
+}
+
+// Takes the whole records starting at an offset, up to the first with a fault.
+pub fn take_records(places: &mut [u64], cells: &mut [u64], s: &[u8], from: usize, rts: u32) -> Taken
+    requires within { ⌜ from ≤ length (now s) ⌝ }
+    ensures after { λ r. ⌜
+        TakenTo (now (places .exit)) (now (cells .exit)) (now (s .entry)) r
+        (taken afterRecord (length (drop from (now (s .entry))) / recordOctets)
+        (recorded (now (places .entry)) (now (cells .entry)) rts) (drop from (now (s .entry)))) ⌝ }
+{
+    let mut at = from;
+    let mut last = rts;
+    while RECORD_OCTETS <= s.len() - at {
+        let here = arrival_record::read_record(&s[at..]);
+        match here {
+            RecordRead::Record(r) => {
+                let time = r.time;
+                arrivals::arrive(places, cells, r.ssrc, r.number, r.mark, time);
+                last = last_known(last, time);
+                at += RECORD_OCTETS;
+            }
+            RecordRead::Refused(e) => {
+                return Taken {
+                    phase: Phase::Faulty(e),
+                    rts: last,
+                    at: s.len(),
+                };
+            }
+        }
+    }
+    Taken {
+        phase: Phase::Records,
+        rts: last,
+        at: at,
+    }
+}
