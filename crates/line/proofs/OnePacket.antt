@@ -28,8 +28,10 @@ use Rattle.writer.proofs.Packets.{length-report}
 use Rattle.arrival_file.specs.File.{endOf}
 use Rattle.arrival_file.specs.declared.Check.{Check}
 use Rattle.intake.specs.declared.Intake.{Intake}
-use Rattle.line_text.specs.Text.{hexLine, refusedLine, putText}
-use Rattle.line_text.proofs.Writing.{length-line, length-refused}
+use Rattle.line_hex.specs.Hex.{hexLine, putText}
+use Rattle.line_hex.proofs.Hex.{length-line}
+use Rattle.line_refusal.specs.Refused.{refusedLine}
+use Rattle.line_refusal.proofs.Refused.{length-refused}
 use Rattle.line.specs.Line.{askedOf, newest, linesOf, ifReported, reportText, finishedText, lineLimit, lineRoom, lineSender, newestNumbers, packetRoom}
 use Rattle.refusal.specs.declared.Refusal.the-variants.{BadStore, BadLimit, TooManyRequests}
 use Rattle.places.specs.declared.Holding.the-variants.{Free, Held}

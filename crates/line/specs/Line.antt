@@ -14,7 +14,8 @@ use Rattle.blocks.specs.Packets.{packetsFor}
 use Rattle.arrival_file.specs.File.{endOf}
 use Rattle.arrival_file.specs.declared.Check.{Check}
 use Rattle.intake.specs.declared.Intake.{Intake}
-use Rattle.line_text.specs.Text.{hexLine, refusedLine}
+use Rattle.line_hex.specs.Hex.{hexLine}
+use Rattle.line_refusal.specs.Refused.{refusedLine}
 use Rattle.places.specs.declared.Holding.the-variants.{Free, Held}
 use Rattle.packet.specs.Packet as packet
 use Rattle.requests.specs.declared.Verdict.the-variants as verdict

@@ -5,7 +5,7 @@ ghost use Prim.Native.Nat.{_≤_};
 ghost use lib.ListN.{length, take};
 ghost use Rattle.octets.specs.Output.{outputAfter};
 ghost use Rattle.places.specs.Shape.{mostPlaces};
-ghost use Rattle.line_text.specs.Text.{putText};
+ghost use Rattle.line_hex.specs.Hex.{putText};
 ghost use Rattle.line.specs.Line.{newest, packetRoom, lineRoom, reportText, finishedText};
 use arrival_file::Check;
 use cutting::Request;
@@ -59,10 +59,10 @@ fn put_report(
             if packets == 0 {
                 0
             } else {
-                line_text::put_line(out, &packet[..octets])
+                line_hex::put_line(out, &packet[..octets])
             }
         }
-        Answer::Refused(e) => line_text::put_refusal(out, e),
+        Answer::Refused(e) => line_refusal::put_refusal(out, e),
     }
 }
 
@@ -76,7 +76,7 @@ fn report(places: &[u64], cells: &[u64], rts: u32, out: &mut [u8]) -> usize
 {
     let sound = places::is_shaped(places, cells);
     if !sound {
-        return line_text::put_refusal(out, Refusal::BadStore);
+        return line_refusal::put_refusal(out, Refusal::BadStore);
     }
     let mut requests = [Request {
         ssrc: 0,
@@ -115,6 +115,6 @@ pub fn finish(places: &[u64], cells: &[u64], intake: Intake, out: &mut [u8]) -> 
     let end = arrival_file::check_end(phase, intake.left);
     match end {
         Check::Sound => report(places, cells, intake.rts, out),
-        Check::Refused(e) => line_text::put_refusal(out, e),
+        Check::Refused(e) => line_refusal::put_refusal(out, e),
     }
 }

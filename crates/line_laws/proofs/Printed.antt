@@ -31,7 +31,8 @@ use Rattle.arrival_file.specs.declared.Check.{Check}
 use Rattle.intake.specs.Intake.{Recorded, recorded, lastKnown, afterRecord, leftOf, fedNext, heldIn}
 use Rattle.intake.specs.declared.Intake.{Intake}
 use Rattle.intake.proofs.Pieces.{all-calls, calls-left}
-use Rattle.line_text.specs.Text.{refusedLine, putText}
+use Rattle.line_hex.specs.Hex.{putText}
+use Rattle.line_refusal.specs.Refused.{refusedLine}
 use Rattle.line_store.specs.Fresh.{freshPlaces, freshCells, linePlaces}
 use Rattle.line.specs.Line.{reportText, ifWhole, finishedText}
 use Rattle.line.specs.Printed.{fresh, reportOf, printedOf, printed}
