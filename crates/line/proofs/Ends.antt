@@ -6,7 +6,7 @@ use Rattle.refusal.specs.declared.Refusal.{Refusal}
 use Rattle.arrival_file.specs.File.{endOf}
 use Rattle.arrival_file.specs.declared.Check.{Check}
 use Rattle.intake.specs.declared.Intake.{Intake}
-use Rattle.line_text.specs.Text.{refusedLine}
+use Rattle.line_refusal.specs.Refused.{refusedLine}
 use Rattle.line.specs.Line.{reportText, finishedText}
 use Rattle.arrival_file.specs.declared.Check.the-variants as check
 

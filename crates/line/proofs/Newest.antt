@@ -13,7 +13,7 @@ use Rattle.places.specs.Place.{readPlace}
 use Rattle.places.specs.Shape.{shaped, mostPlaces}
 use Rattle.places.specs.declared.Holding.{Holding}
 use Rattle.cutting.specs.declared.Request.{Request}
-use Rattle.line_text.specs.Text.{refusedLine}
+use Rattle.line_refusal.specs.Refused.{refusedLine}
 use Rattle.line_report.specs.Report.{FourEach, requestedText}
 use Rattle.line.specs.Line.{newestFour, askedOf, newest, reportText}
 use Rattle.places.specs.declared.Holding.the-variants.{Free, Held}

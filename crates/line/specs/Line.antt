@@ -5,7 +5,7 @@ use mathlib.Core.List.{List, [], _∷_}
 use Rattle.arrival_file.specs.File.{endOf}
 use Rattle.arrival_file.specs.declared.Check.{Check}
 use Rattle.intake.specs.declared.Intake.{Intake}
-use Rattle.line_text.specs.Text.{refusedLine}
+use Rattle.line_refusal.specs.Refused.{refusedLine}
 use Rattle.arrival_file.specs.declared.Check.the-variants as check
 use Rattle.line_report.specs.Report.{newestNumbers, requestedLines, requestedText}
 use Rattle.window.specs.Number.{distanceOf}

@@ -5,7 +5,7 @@ use mathlib.Core.List.{List, foldl}
 use Rattle.arrival_record.specs.declared.Record.{Record}
 use Rattle.arrival_file.specs.File.{Result, sound, faulty, fileOf}
 use Rattle.recording.specs.Recorded.{Recorded, recorded, afterRecord}
-use Rattle.line_text.specs.Text.{refusedLine}
+use Rattle.line_refusal.specs.Refused.{refusedLine}
 use Rattle.line_store.specs.Fresh.{freshPlaces, freshCells}
 use Rattle.line.specs.Line.{reportLines}
 

@@ -4,7 +4,7 @@ ghost use mathlib.Core.Path.{_≡_};
 ghost use Prim.Native.Nat.{_≤_};
 ghost use lib.ListN.{length};
 ghost use Rattle.octets.specs.Output.{outputAfter};
-ghost use Rattle.line_text.specs.Text.{putText};
+ghost use Rattle.line_hex.specs.Hex.{putText};
 ghost use Rattle.line_report.specs.Report.{lineRoom};
 ghost use Rattle.line.specs.Line.{reportText, finishedText};
 use arrival_file::Check;
@@ -29,7 +29,7 @@ fn report(places: &[u64], cells: &[u64], rts: u32, out: &mut [u8]) -> usize
 {
     let sound = places::is_shaped(places, cells);
     if !sound {
-        return line_text::put_refusal(out, Refusal::BadStore);
+        return line_refusal::put_refusal(out, Refusal::BadStore);
     }
     let mut requests = [Request {
         ssrc: 0,
@@ -68,6 +68,6 @@ pub fn finish(places: &[u64], cells: &[u64], intake: Intake, out: &mut [u8]) -> 
     let end = arrival_file::check_end(phase, intake.left);
     match end {
         Check::Sound => report(places, cells, intake.rts, out),
-        Check::Refused(e) => line_text::put_refusal(out, e),
+        Check::Refused(e) => line_refusal::put_refusal(out, e),
     }
 }

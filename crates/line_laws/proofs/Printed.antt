@@ -32,7 +32,8 @@ use Rattle.recording.specs.Recorded.{Recorded, recorded, lastKnown, afterRecord
 use Rattle.intake.specs.Intake.{leftOf, fedNext, heldIn}
 use Rattle.intake.specs.declared.Intake.{Intake}
 use Rattle.intake.proofs.Pieces.{all-calls, calls-left}
-use Rattle.line_text.specs.Text.{refusedLine, putText}
+use Rattle.line_hex.specs.Hex.{putText}
+use Rattle.line_refusal.specs.Refused.{refusedLine}
 use Rattle.line_store.specs.Fresh.{freshPlaces, freshCells, linePlaces}
 use Rattle.line_report.specs.Report.{requestedText}
 use Rattle.line.specs.Line.{ifWhole, finishedText, reportText}

@@ -22,8 +22,10 @@ use Rattle.blocks.specs.Packets.{storeMetric, reportPacket, encodePackets, pack
 use Rattle.writer.specs.declared.Answer.{Answer}
 use Rattle.writer.specs.Written.{putPackets, writingRefused, ifAllSound, written}
 use Rattle.packets.proofs.Packets.{length-report}
-use Rattle.line_text.specs.Text.{hexLine, refusedLine, putText}
-use Rattle.line_text.proofs.Writing.{length-line, length-refused}
+use Rattle.line_hex.specs.Hex.{hexLine, putText}
+use Rattle.line_refusal.specs.Refused.{refusedLine}
+use Rattle.line_hex.proofs.Hex.{length-line}
+use Rattle.line_refusal.proofs.Refused.{length-refused}
 use Rattle.line_report.specs.Report.{FourEach, linesOf, ifReported, requestedText, lineLimit, lineRoom, lineSender, packetRoom}
 use Rattle.refusal.specs.declared.Refusal.the-variants.{BadStore, BadLimit, TooManyRequests}
 use Rattle.packet.specs.Packet as packet

@@ -11,7 +11,8 @@ use Rattle.cutting.specs.declared.Request.{Request}
 use Rattle.requests.specs.Requests.{checked}
 use Rattle.requests.specs.declared.Verdict.{Verdict}
 use Rattle.blocks.specs.Packets.{packetsFor}
-use Rattle.line_text.specs.Text.{hexLine, refusedLine}
+use Rattle.line_hex.specs.Hex.{hexLine}
+use Rattle.line_refusal.specs.Refused.{refusedLine}
 use Rattle.packet.specs.Packet as packet
 use Rattle.requests.specs.declared.Verdict.the-variants as verdict
 

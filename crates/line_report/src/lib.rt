@@ -4,7 +4,7 @@ ghost use Prim.Native.Nat.{_≤_};
 ghost use lib.ListN.{length, take};
 ghost use Rattle.octets.specs.Output.{outputAfter};
 ghost use Rattle.places.specs.Shape.{mostPlaces};
-ghost use Rattle.line_text.specs.Text.{putText};
+ghost use Rattle.line_hex.specs.Hex.{putText};
 ghost use Rattle.line_report.specs.Report.{FourEach, packetRoom, lineRoom, requestedText};
 use cutting::Request;
 use places::MOST_PLACES;
@@ -49,9 +49,9 @@ pub fn put_report(
             if packets == 0 {
                 0
             } else {
-                line_text::put_line(out, &packet[..octets])
+                line_hex::put_line(out, &packet[..octets])
             }
         }
-        Answer::Refused(e) => line_text::put_refusal(out, e),
+        Answer::Refused(e) => line_refusal::put_refusal(out, e),
     }
 }

@@ -1,21 +1,14 @@
--- Laws for writing lines to the front of an output. Assumes nothing.
+-- Laws for writing hex to the front of an output. Assumes nothing.
 use Prim.Native.Nat.{ℕ, suc, _+_, _*_, _/_, _%_, _<_, _≤_}
 use mathlib.Core.Path.{_≡_, refl}
-use mathlib.Core.Bool.{Bool, true, false, cond}
 use mathlib.Core.List.{List, [], _∷_, _++_}
 use native.Mathlib.Omega.{arith}
 use native.Mathlib.Numerals.{add-one}
-use borrow.Author.Tests.{lt-ltb, le-ltb}
-use lib.Dec.{ltb, lit≤}
 use lib.ListN.{length, getD, set, drop, length-append, drop-of-length-le}
 use lib.Seq.{sets, drop-cons}
-use Rattle.refusal.specs.declared.Refusal.{Refusal}
-use Rattle.refusal.specs.Numbers.{numberOf}
 use Rattle.octets.specs.Output.{outputAfter}
 use Rattle.octets.proofs.Sets.{sets-append}
-use Rattle.line_text.specs.Text.{digitOf, hexOf, newline, hexLine, refusedText, refusedLine, putText, refusalRoom, zeroDigit}
-
--- ---- hex
+use Rattle.line_hex.specs.Hex.{digitOf, hexOf, newline, hexLine, putText}
 
 -- one octet more
 pub one-put : (out packet : List ℕ) (i : ℕ) → i < length packet
@@ -47,23 +40,3 @@ line-put out out′ packet e =
     let n : length (hexLine packet) ≡ 2 * length packet + 1 = length-line packet in
     let m : 0 + length (hexOf packet) ≡ 2 * length packet = omega (arith, length-hex packet) in
     rw (n, sets-append (hexOf packet) newline out 0, m, e)
-
--- ---- refusals
-
-pub length-refused : (e : Refusal) → length (refusedLine e) ≤ refusalRoom
-unfolding refusedLine
-length-refused e = go (ltb (numberOf e) 10)
-  where
-    go : (b : Bool)
-        → length (refusedText ++ (cond b ((zeroDigit + numberOf e) ∷ []) ((zeroDigit + numberOf e / 10) ∷ (zeroDigit + numberOf e % 10) ∷ []) ++ newline)) ≤ refusalRoom
-    go true = lit≤ tt
-    go false = lit≤ tt
-
-module _ (out out′ : List ℕ) (e : Refusal) (n : ℕ) (number : n ≡ numberOf e) (text : out′ ≡ sets out 0 refusedText) where
-  pub short-put : n < 10 → outputAfter 10 (set (set out′ 8 (zeroDigit + n)) 9 10) ≡ putText out (refusedLine e)
-  unfolding refusedLine
-  short-put h = rw (text, ← number, lt-ltb n 10 h)
-
-  pub long-put : 10 ≤ n → outputAfter 11 (set (set (set out′ 8 (zeroDigit + n / 10)) 9 (zeroDigit + n % 10)) 10 10) ≡ putText out (refusedLine e)
-  unfolding refusedLine
-  long-put h = rw (text, ← number, le-ltb n 10 h)

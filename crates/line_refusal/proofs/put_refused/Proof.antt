@@ -1,9 +1,9 @@
--- `line_text::put_refused` meets its contract. Assumes nothing.
+-- `line_refusal::put_refused` meets its contract. Assumes nothing.
 use native.Mathlib.Omega.{arith}
 use lib.ListN.{length-set}
 use borrow.Author.Needs.{needs}
-use Rattle.line_text.proofs.put_refused.Statement.{statement}
-use Rattle.line_text.proofs.put_refused.Tie as tie
+use Rattle.line_refusal.proofs.put_refused.Statement.{statement}
+use Rattle.line_refusal.proofs.put_refused.Tie as tie
 
 slice-write-out-2 : tie.Need-slice-write-out-2
 slice-write-out-2 c = simp length-set (omega arith)

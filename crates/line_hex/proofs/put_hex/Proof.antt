@@ -1,13 +1,13 @@
--- `line_text::put_hex` meets its contract. The invariant: what is still to be written gives the whole. Assumes nothing.
+-- `line_hex::put_hex` meets its contract. The invariant: what is still to be written gives the whole. Assumes nothing.
 use Prim.Native.Nat.{_-_, _*_, _≤_}
 use mathlib.Core.Path.{_≡_, refl, sym, _∙_}
 use native.Mathlib.Omega.{arith}
 use lib.ListN.{length, drop, length-set}
 use lib.Seq.{sets}
-use Rattle.line_text.specs.Text.{hexOf}
-use Rattle.line_text.proofs.Writing.{one-put, all-put}
-use Rattle.line_text.proofs.put_hex.Statement.{statement}
-use Rattle.line_text.proofs.put_hex.Tie as tie
+use Rattle.line_hex.specs.Hex.{hexOf}
+use Rattle.line_hex.proofs.Hex.{one-put, all-put}
+use Rattle.line_hex.proofs.put_hex.Statement.{statement}
+use Rattle.line_hex.proofs.put_hex.Tie as tie
 
 abbrev Inv-loop : tie.InvT-loop
 Inv-loop out₀ packet i₀ out i =

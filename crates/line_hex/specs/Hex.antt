@@ -1,13 +1,11 @@
--- The lines that ccfbline prints, as octets of ASCII: a packet in lower-case hex, or `refused N` with the
--- number of a refusal.
+-- The line that ccfbline prints for a packet, as octets of ASCII: its octets in lower-case hex. Every line ends with
+-- the same newline, and is put into the output in the same way.
 use Prim.Native.Nat.{ℕ, _+_, _-_, _/_, _%_}
 use mathlib.Core.Bool.{cond}
 use mathlib.Core.List.{List, [], _∷_, _++_}
 use lib.ListN.{length}
 use lib.Seq.{sets}
 use lib.Dec.{ltb}
-use Rattle.refusal.specs.Numbers.{numberOf}
-use Rattle.refusal.specs.declared.Refusal.{Refusal}
 use Rattle.octets.specs.Output.{OutputAfter, outputAfter}
 
 -- `0`; and the digits 10 to 15 are the letters starting at `a`, which is 97
@@ -32,25 +30,6 @@ newline = 10 ∷ []
 -- a packet is one line of lower-case hex
 unfoldable pub hexLine : List ℕ → List ℕ
 hexLine packet = hexOf packet ++ newline
-
--- `refused `
-abbrev pub refusedText : List ℕ
-refusedText = 114 ∷ 101 ∷ 102 ∷ 117 ∷ 115 ∷ 101 ∷ 100 ∷ 32 ∷ []
-
-abbrev pub refusedOctets : ℕ
-refusedOctets = 8
-
--- a number below 100
-abbrev pub decimalOf : ℕ → List ℕ
-decimalOf n = cond (ltb n 10) ((zeroDigit + n) ∷ []) ((zeroDigit + n / 10) ∷ (zeroDigit + n % 10) ∷ [])
-
--- `refused N`
-unfoldable pub refusedLine : Refusal → List ℕ
-refusedLine e = refusedText ++ (decimalOf (numberOf e) ++ newline)
-
--- room for the line of any refusal: a number has one digit or two
-abbrev pub refusalRoom : ℕ
-refusalRoom = refusedOctets + 3
 
 -- how many octets were written to the front of the output, and what it then holds
 abbrev pub putText : List ℕ → List ℕ → OutputAfter ℕ

@@ -1,10 +1,10 @@
--- `line_text::put_refusal` meets its contract. Assumes nothing.
+-- `line_refusal::put_refusal` meets its contract. Assumes nothing.
 use native.Mathlib.Omega.{arith}
 use lib.ListN.{length-set}
-use Rattle.line_text.proofs.Writing.{short-put, long-put}
+use Rattle.line_refusal.proofs.Refused.{short-put, long-put}
 use borrow.Author.Needs.{needs}
-use Rattle.line_text.proofs.put_refusal.Statement.{statement}
-use Rattle.line_text.proofs.put_refusal.Tie as tie
+use Rattle.line_refusal.proofs.put_refusal.Statement.{statement}
+use Rattle.line_refusal.proofs.put_refusal.Tie as tie
 
 slice-write-out-2 : tie.Need-slice-write-out-2
 slice-write-out-2 c = simp length-set (omega arith)

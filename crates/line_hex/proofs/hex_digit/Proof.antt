@@ -1,8 +1,8 @@
--- `line_text::hex_digit` meets its contract. Assumes nothing.
+-- `line_hex::hex_digit` meets its contract. Assumes nothing.
 use borrow.Author.Tests.{lt-ltb, le-ltb}
 use borrow.Author.Needs.{needs}
-use Rattle.line_text.proofs.hex_digit.Statement.{statement}
-use Rattle.line_text.proofs.hex_digit.Tie as tie
+use Rattle.line_hex.proofs.hex_digit.Statement.{statement}
+use Rattle.line_hex.proofs.hex_digit.Tie as tie
 
 returns : tie.Need-returns
 returns c = rw (lt-ltb _ _ (c .if1 .taken))

@@ -1,8 +1,8 @@
--- `line_text::put_line` meets its contract. Assumes nothing.
-use Rattle.line_text.proofs.Writing.{line-put}
+-- `line_hex::put_line` meets its contract. Assumes nothing.
+use Rattle.line_hex.proofs.Hex.{line-put}
 use borrow.Author.Needs.{needs}
-use Rattle.line_text.proofs.put_line.Statement.{statement}
-use Rattle.line_text.proofs.put_line.Tie as tie
+use Rattle.line_hex.proofs.put_line.Statement.{statement}
+use Rattle.line_hex.proofs.put_line.Tie as tie
 
 returns : tie.Need-returns
 returns c = line-put _ _ _ (c .before .before .put-hex .ensures)
