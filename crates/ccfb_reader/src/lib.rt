@@ -1,12 +1,11 @@
-// The calls for C that read a packet by numbers: block k, and metric j of block k.
+// The calls for C that read a packet: its sender, RTS and number of blocks, and block k.
 ghost use mathlib.Core.Path.{_≡_};
 ghost use mathlib.Core.List.{[], _∷_};
-ghost use Rattle.reader.specs.Reading.{decode, readOf, readBlock, readMetric};
+ghost use Rattle.reader.specs.Reading.{decode, readOf, readBlock};
 ghost use Rattle.ccfb_calls.specs.Called.{called};
-ghost use Rattle.ccfb_reader.specs.Packets.{readCalled, blockCalled, partCalled, metricCalled};
+ghost use Rattle.ccfb_reader.specs.Packets.{readCalled, blockCalled};
 use reader::BlockAnswer;
 use reader::Reading;
-use reports::MetricAnswer;
 
 // The sender, RTS and the number of blocks. Refusals 21 to 28.
 #[no_mangle]
@@ -60,63 +59,5 @@ pub extern "C" fn ccfb_block(
             0
         }
         BlockAnswer::Refused(e) => refusal::number(e),
-    }
-}
-
-// The part of the packet that holds the metrics of block k: where it starts, and how many octets it has. Refusals 21 to
-// 29; both numbers are then 0.
-#[no_mangle]
-pub extern "C" fn ccfb_block_metrics(
-    packet: &[u8],
-    k: usize,
-    metrics_at: &mut usize,
-    metrics_length: &mut usize,
-) -> u8
-    ensures after { λ r. ⌜
-        called r (now («metrics_at» .exit) ∷ now («metrics_length» .exit) ∷ [])
-        ≡ partCalled (readBlock (now (packet .entry)) k) ⌝ }
-{
-    let found = reader::block(packet, k);
-    match found {
-        BlockAnswer::Found(part) => {
-            *metrics_at = part.metrics_at;
-            *metrics_length = 2 * (part.num_reports as usize);
-            0
-        }
-        BlockAnswer::Refused(e) => {
-            *metrics_at = 0;
-            *metrics_length = 0;
-            refusal::number(e)
-        }
-    }
-}
-
-// The sequence number and the case of metric j of block k, both from 0. Refusals 21 to 30.
-#[no_mangle]
-pub extern "C" fn ccfb_metric(
-    packet: &[u8],
-    k: usize,
-    j: usize,
-    number: &mut u16,
-    case: &mut u8,
-    mark: &mut u8,
-    offset: &mut u16,
-) -> u8
-    ensures after { λ r. ⌜
-        called r (now (number .exit) ∷ now (case .exit) ∷ now (mark .exit) ∷ now (offset .exit) ∷ [])
-        ≡ metricCalled (readMetric (now (packet .entry)) k j)
-        (now (number .entry)) (now (case .entry)) (now (mark .entry)) (now (offset .entry)) ⌝ }
-{
-    let answer = reader::metric(packet, k, j);
-    match answer {
-        MetricAnswer::Reported {
-            number: n,
-            metric: m,
-        } => {
-            *number = n;
-            *case = ccfb_calls::put_case(m, mark, offset);
-            0
-        }
-        MetricAnswer::Refused(e) => refusal::number(e),
     }
 }

@@ -1,51 +1,12 @@
-// The calls for C on a store that the caller lends.
+// The calls for C that forget a stream of a store that the caller lends, and that read a place of it.
 ghost use mathlib.Core.Path.{_≡_};
 ghost use mathlib.Core.List.{[], _∷_};
-ghost use Rattle.metric.specs.Metric.{timeOf};
-ghost use Rattle.places.specs.After.{storeAfter, placesAfter};
-ghost use Rattle.arrivals.specs.Arrivals.{arrived};
+ghost use Rattle.places.specs.After.{placesAfter};
 ghost use Rattle.store.specs.Store.{forgotten, placeOf};
 ghost use Rattle.ccfb_calls.specs.Called.{called};
-ghost use Rattle.ccfb_store.specs.Arrivals.{arrivalRefusal, arriveCalled, forgettingRefusal, forgetCalled, placeCalled};
-use arrivals::Arrival;
+ghost use Rattle.ccfb_store.specs.Places.{forgettingRefusal, forgetCalled, placeCalled};
 use store::Forgetting;
 use store::PlaceAnswer;
-
-// 0 for an accepted arrival, else the number of the refusal.
-fn arrival_refusal(answer: Arrival) -> u8
-    ensures value { λ r. ⌜ r ≡ arrivalRefusal answer ⌝ }
-{
-    match answer {
-        Arrival::Accepted => 0,
-        Arrival::Refused(e) => refusal::number(e),
-    }
-}
-
-// Records one arrival. Refusals 4, 1, then 3 or 2.
-#[no_mangle]
-pub extern "C" fn ccfb_arrive(
-    places: &mut [u64],
-    cells: &mut [u64],
-    ssrc: u32,
-    number: u16,
-    mark: u8,
-    time_known: bool,
-    time: u32,
-) -> u8
-    ensures after { λ r. ⌜
-        storeAfter r (now (places .exit)) (now (cells .exit))
-        ≡ arriveCalled
-        (arrived (now (places .entry)) (now (cells .entry)) ssrc number mark (timeOf «time_known» time)) ⌝ }
-{
-    arrival_refusal(arrivals::arrive(
-        places,
-        cells,
-        ssrc,
-        number,
-        mark,
-        metric::time_of(time_known, time),
-    ))
-}
 
 // 0 for a stream that was forgotten, else the number of the refusal.
 fn forgetting_refusal(answer: Forgetting) -> u8

@@ -2,7 +2,7 @@
 use mathlib.Core.Path.{ap, _∙_}
 use Prim.Native.Nat.{ℕ}
 use Rattle.places.specs.After.{placesAfter}
-use Rattle.ccfb_store.specs.Arrivals.{forgetCalled}
+use Rattle.ccfb_store.specs.Places.{forgetCalled}
 use borrow.Author.Needs.{needs}
 use Rattle.ccfb_store.proofs.ccfb_forget.Statement.{statement}
 use Rattle.ccfb_store.proofs.ccfb_forget.Tie as tie

@@ -2,7 +2,7 @@
 use mathlib.Core.List.{[], _∷_}
 use Rattle.store.specs.declared.PlaceAnswer.{PlaceAnswer}
 use Rattle.ccfb_calls.proofs.Told.{told}
-use Rattle.ccfb_store.specs.Arrivals.{placeCalled}
+use Rattle.ccfb_store.specs.Places.{placeCalled}
 use borrow.Author.Needs.{needs}
 use Rattle.ccfb_store.proofs.ccfb_place.Statement.{statement}
 use Rattle.ccfb_store.proofs.ccfb_place.Tie as tie

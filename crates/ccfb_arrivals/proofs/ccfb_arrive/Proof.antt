@@ -1,13 +1,13 @@
--- `ccfb_store::ccfb_arrive` meets its contract. Assumes nothing.
+-- `ccfb_arrivals::ccfb_arrive` meets its contract. Assumes nothing.
 use mathlib.Core.Path.{ap, _∙_}
 use Prim.Native.Nat.{ℕ}
 use Rattle.metric.specs.declared.Time.{Time}
 use Rattle.places.specs.After.{storeAfter}
 use Rattle.arrivals.specs.Arrivals.{arrived}
-use Rattle.ccfb_store.specs.Arrivals.{arriveCalled}
+use Rattle.ccfb_arrivals.specs.Arrivals.{arriveCalled}
 use borrow.Author.Needs.{needs}
-use Rattle.ccfb_store.proofs.ccfb_arrive.Statement.{statement}
-use Rattle.ccfb_store.proofs.ccfb_arrive.Tie as tie
+use Rattle.ccfb_arrivals.proofs.ccfb_arrive.Statement.{statement}
+use Rattle.ccfb_arrivals.proofs.ccfb_arrive.Tie as tie
 
 returns : tie.Need-returns
 returns c =

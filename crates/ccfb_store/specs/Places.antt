@@ -1,26 +1,16 @@
--- What the calls for C on a store answer, 0 or the number of a refusal, and what they leave in the store and
--- behind their pointers.
+-- What the calls for C that forget a stream and that read a place answer, 0 or the number of a refusal, and
+-- what they leave in the places and behind their pointers.
 use Prim.Native.Nat.{ℕ}
 use mathlib.Core.List.{List, [], _∷_}
 use Rattle.refusal.specs.Numbers.{numberOf}
-use Rattle.places.specs.After.{StoreAfter, storeAfter, PlacesAfter, placesAfter}
-use Rattle.arrivals.specs.declared.Arrival.{Arrival}
+use Rattle.places.specs.After.{PlacesAfter, placesAfter}
 use Rattle.store.specs.declared.Forgetting.{Forgetting}
 use Rattle.store.specs.declared.PlaceAnswer.{PlaceAnswer}
 use Rattle.ccfb_calls.specs.Called.{Called, called, refusedWith}
-use Rattle.arrivals.specs.declared.Arrival.the-variants as arrival
 use Rattle.store.specs.declared.Forgetting.the-variants as forgetting
 use Rattle.store.specs.declared.PlaceAnswer.the-variants as place
 
 -- 0, or the number of the refusal
-abbrev pub arrivalRefusal : Arrival → ℕ
-arrivalRefusal arrival.Accepted = 0
-arrivalRefusal (arrival.Refused e) = numberOf e
-
--- `ccfb_arrive`: the store after the call
-abbrev pub arriveCalled : StoreAfter Arrival → StoreAfter ℕ
-arriveCalled o = storeAfter (arrivalRefusal (o .answer)) (o .places) (o .cells)
-
 abbrev pub forgettingRefusal : Forgetting → ℕ
 forgettingRefusal forgetting.Forgotten = 0
 forgettingRefusal (forgetting.Refused e) = numberOf e

@@ -1,7 +1,7 @@
--- `ccfb_store::arrival_refusal` meets its contract. Assumes nothing.
+-- `ccfb_arrivals::arrival_refusal` meets its contract. Assumes nothing.
 use borrow.Author.Needs.{needs}
-use Rattle.ccfb_store.proofs.arrival_refusal.Statement.{statement}
-use Rattle.ccfb_store.proofs.arrival_refusal.Tie as tie
+use Rattle.ccfb_arrivals.proofs.arrival_refusal.Statement.{statement}
+use Rattle.ccfb_arrivals.proofs.arrival_refusal.Tie as tie
 
 returns-2 : tie.Need-returns-2
 returns-2 c = rw (c .before .before .answer .given .1) (c .number .ensures)

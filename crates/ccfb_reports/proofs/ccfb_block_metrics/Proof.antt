@@ -1,9 +1,9 @@
--- `ccfb_reader::ccfb_block_metrics` meets its contract. Assumes nothing.
+-- `ccfb_reports::ccfb_block_metrics` meets its contract. Assumes nothing.
 use Rattle.ccfb_calls.proofs.Told.{told}
-use Rattle.ccfb_reader.specs.Packets.{partCalled}
+use Rattle.ccfb_reports.specs.Reports.{partCalled}
 use borrow.Author.Needs.{needs}
-use Rattle.ccfb_reader.proofs.ccfb_block_metrics.Statement.{statement}
-use Rattle.ccfb_reader.proofs.ccfb_block_metrics.Tie as tie
+use Rattle.ccfb_reports.proofs.ccfb_block_metrics.Statement.{statement}
+use Rattle.ccfb_reports.proofs.ccfb_block_metrics.Tie as tie
 
 returns : tie.Need-returns
 returns c =
