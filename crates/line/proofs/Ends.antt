@@ -7,7 +7,8 @@ use Rattle.arrival_file.specs.File.{endOf}
 use Rattle.arrival_file.specs.declared.Check.{Check}
 use Rattle.intake.specs.declared.Intake.{Intake}
 use Rattle.line_refusal.specs.Refused.{refusedLine}
-use Rattle.line.specs.Line.{reportText, finishedText}
+use Rattle.line_newest.specs.Newest.{reportText}
+use Rattle.line.specs.Line.{finishedText}
 use Rattle.arrival_file.specs.declared.Check.the-variants as check
 
 module _ (places cells : List ℕ) (i : Intake) (v : Check) (e : v ≡ endOf (i .phase) (i .left)) where

@@ -7,7 +7,7 @@ use Rattle.arrival_file.specs.File.{Result, sound, faulty, fileOf}
 use Rattle.recording.specs.Recorded.{Recorded, recorded, afterRecord}
 use Rattle.line_refusal.specs.Refused.{refusedLine}
 use Rattle.line_store.specs.Fresh.{freshPlaces, freshCells}
-use Rattle.line.specs.Line.{reportLines}
+use Rattle.line_newest.specs.Newest.{reportLines}
 
 -- a fresh store; RTS is 0 where no time is known
 abbrev pub fresh : Recorded

@@ -6,55 +6,9 @@ ghost use lib.ListN.{length};
 ghost use Rattle.octets.specs.Output.{outputAfter};
 ghost use Rattle.line_hex.specs.Hex.{putText};
 ghost use Rattle.line_report.specs.Report.{lineRoom};
-ghost use Rattle.line.specs.Line.{reportText, finishedText};
+ghost use Rattle.line.specs.Line.{finishedText};
 use arrival_file::Check;
-use cutting::Request;
 use intake::Intake;
-use places::Holding;
-use places::MOST_PLACES;
-use refusal::Refusal;
-
-// How many numbers of each stream are asked for, and how far before the highest they begin.
-const NEWEST: u16 = 4;
-
-const BACK: u16 = NEWEST - 1;
-
-// Asks for the newest four numbers of each stream, in place order.
-fn report(places: &[u64], cells: &[u64], rts: u32, out: &mut [u8]) -> usize
-    requires room { ⌜ lineRoom ≤ length (now out) ⌝ }
-    ensures after { λ r. ⌜
-        outputAfter r (now (out .exit))
-        ≡ putText (now (out .entry)) (reportText (now (places .entry)) (now (cells .entry)) rts) ⌝ }
-    ensures bound { λ r. ⌜ r ≤ lineRoom ⌝ }
-{
-    let sound = places::is_shaped(places, cells);
-    if !sound {
-        return line_refusal::put_refusal(out, Refusal::BadStore);
-    }
-    let mut requests = [Request {
-        ssrc: 0,
-        begin: 0,
-        count: 0,
-    }; MOST_PLACES];
-    let mut n = 0;
-    let mut i = 0;
-    while i < places.len() {
-        let here = places::read_place(places[i]);
-        match here {
-            Holding::Held { ssrc, highest } => {
-                requests[n] = Request {
-                    ssrc: ssrc,
-                    begin: window::distance(highest, BACK),
-                    count: NEWEST,
-                };
-                n += 1;
-            }
-            Holding::Free => {}
-        }
-        i += 1;
-    }
-    line_report::put_report(places, cells, rts, requests, n, out)
-}
 
 // Writes what is to be printed to the front of the output, which has room for a line on 16 streams: how many octets.
 pub fn finish(places: &[u64], cells: &[u64], intake: Intake, out: &mut [u8]) -> usize
@@ -67,7 +21,7 @@ pub fn finish(places: &[u64], cells: &[u64], intake: Intake, out: &mut [u8]) -> 
     let phase = intake.phase;
     let end = arrival_file::check_end(phase, intake.left);
     match end {
-        Check::Sound => report(places, cells, intake.rts, out),
+        Check::Sound => line_newest::report(places, cells, intake.rts, out),
         Check::Refused(e) => line_refusal::put_refusal(out, e),
     }
 }

@@ -36,7 +36,8 @@ use Rattle.line_hex.specs.Hex.{putText}
 use Rattle.line_refusal.specs.Refused.{refusedLine}
 use Rattle.line_store.specs.Fresh.{freshPlaces, freshCells, linePlaces}
 use Rattle.line_report.specs.Report.{requestedText}
-use Rattle.line.specs.Line.{ifWhole, finishedText, reportText}
+use Rattle.line.specs.Line.{ifWhole, finishedText}
+use Rattle.line_newest.specs.Newest.{reportText}
 use Rattle.line.specs.Printed.{fresh, reportOf, printedOf, printed}
 use Rattle.line_laws.specs.Laws.{Answered, LastTime, fedPieces}
 use Rattle.line_laws.proofs.Records.{callOf, InRange, file-range, calls-range}

@@ -15,7 +15,7 @@ use Rattle.places.specs.declared.Holding.{Holding}
 use Rattle.places.proofs.Held.{held-highest}
 use Rattle.cutting.specs.declared.Request.{Request}
 use Rattle.line_report.specs.Report.{newestNumbers}
-use Rattle.line.specs.Line.{newestFour, askedOf, newest}
+use Rattle.line_newest.specs.Newest.{newestFour, askedOf, newest}
 use Rattle.lists.specs.declared.Found.the-variants.{At}
 use Rattle.places.specs.declared.Holding.the-variants.{Free, Held}
 use Rattle.requests.specs.Requests as requests

@@ -1,4 +1,4 @@
--- `line::report` meets its contract. The invariant: the requests so far and those of the places still to be read are all. Assumes nothing.
+-- `line_newest::report` meets its contract. The invariant: the requests so far and those of the places still to be read are all. Assumes nothing.
 use Prim.Native.Nat.{_-_}
 use mathlib.Core.Path.{_≡_, refl, sym, _∙_}
 use mathlib.Core.Logic.{⊎-elim}
@@ -8,10 +8,10 @@ use borrow.Author.Tests.{not-true, not-false}
 use lib.ListN.{length, take}
 use Rattle.places.proofs.Shape.{is-shaped}
 use Rattle.line_report.proofs.OnePacket.{put-refused}
-use Rattle.line.specs.Line.{newest}
-use Rattle.line.proofs.Newest.{Gathering, turn-free, turn-held, gather-all, newest-four, misshapen-text}
-use Rattle.line.proofs.report.Statement.{statement}
-use Rattle.line.proofs.report.Tie as tie
+use Rattle.line_newest.specs.Newest.{newest}
+use Rattle.line_newest.proofs.Newest.{Gathering, turn-free, turn-held, gather-all, newest-four, misshapen-text}
+use Rattle.line_newest.proofs.report.Statement.{statement}
+use Rattle.line_newest.proofs.report.Tie as tie
 
 abbrev Inv-loop : tie.InvT-loop
 Inv-loop places cells rts out sound requests₀ n₀ i₀ requests n i = Gathering places requests n i

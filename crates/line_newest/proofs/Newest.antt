@@ -15,7 +15,7 @@ use Rattle.places.specs.declared.Holding.{Holding}
 use Rattle.cutting.specs.declared.Request.{Request}
 use Rattle.line_refusal.specs.Refused.{refusedLine}
 use Rattle.line_report.specs.Report.{FourEach, requestedText}
-use Rattle.line.specs.Line.{newestFour, askedOf, newest, reportText}
+use Rattle.line_newest.specs.Newest.{newestFour, askedOf, newest, reportText}
 use Rattle.places.specs.declared.Holding.the-variants.{Free, Held}
 
 -- the first n requests, and those of the places starting at i
