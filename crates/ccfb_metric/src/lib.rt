@@ -41,5 +41,5 @@ pub extern "C" fn ccfb_decode_metric(metric: u16, mark: &mut u8, offset: &mut u1
         called r (now (mark .exit) ∷ now (offset .exit) ∷ [])
         ≡ caseCalled (decodeOf metric) (now (mark .entry)) (now (offset .entry)) ⌝ }
 {
-    ccfb_calls::put_case(metric::decode(metric), mark, offset)
+    ccfb_calls::put_case(metric_decode::decode(metric), mark, offset)
 }

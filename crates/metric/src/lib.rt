@@ -1,7 +1,7 @@
 // The 16-bit metric of a sequence number: R, 2 bits ECN mark, 13 bits arrival time offset (ATO).
 ghost use mathlib.Core.Path.{_≡_};
 ghost use Prim.Native.Nat.{_<_};
-ghost use Rattle.metric.specs.Metric.{timeOf, ageOf, atoOfAge, atoOf, markUnit, assembledOf, encodeOf, decodeOf};
+ghost use Rattle.metric.specs.Metric.{timeOf, ageOf, atoOfAge, atoOf, markUnit, assembledOf, encodeOf};
 
 // How many times there are.
 pub const TIMES: u64 = 0x1_0000_0000;
@@ -9,7 +9,7 @@ pub const TIMES: u64 = 0x1_0000_0000;
 // The codes without an offset, and the longest age that has one.
 pub const NO_TIME: u16 = 0x1FFF;
 
-const OVER_RANGE: u16 = 0x1FFE;
+pub const OVER_RANGE: u16 = 0x1FFE;
 
 const LONGEST_AGE: u32 = 524096;
 
@@ -25,9 +25,9 @@ pub const CONGESTED: u8 = 3;
 const U16S: u32 = 0x1_0000;
 
 // R, and the lowest bit of the mark.
-const RECEIVED: u16 = 0x8000;
+pub const RECEIVED: u16 = 0x8000;
 
-const MARK_UNIT: u16 = 0x2000;
+pub const MARK_UNIT: u16 = 0x2000;
 
 // A time of arrival, a count of 1/65536 s (the middle 32 bits of an NTP timestamp).
 pub enum Time {
@@ -109,26 +109,5 @@ pub fn encode(cell: Cell, rts: u32) -> u16
     match cell {
         Cell::Empty => 0,
         Cell::Filled { mark, time } => assembled(mark, ato(time, rts)),
-    }
-}
-
-// What a metric says.
-pub fn decode(m: u16) -> Metric
-    ensures value { λ r. ⌜ r ≡ decodeOf m ⌝ }
-{
-    if m < RECEIVED {
-        return Metric::NotReceived;
-    }
-    let mark = (m / MARK_UNIT % 4) as u8;
-    let offset = m % MARK_UNIT;
-    if offset == NO_TIME {
-        return Metric::NoTime { mark: mark };
-    }
-    if offset == OVER_RANGE {
-        return Metric::OverRange { mark: mark };
-    }
-    Metric::Received {
-        mark: mark,
-        offset: offset,
     }
 }

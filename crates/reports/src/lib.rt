@@ -39,7 +39,7 @@ pub fn metric_at(part: &[u8], j: usize) -> PartAnswer
     if part.len() / 2 <= j {
         return PartAnswer::Refused(Refusal::NoNumber);
     }
-    PartAnswer::Case(metric::decode(octets::get16(part, 2 * j)))
+    PartAnswer::Case(metric_decode::decode(octets::get16(part, 2 * j)))
 }
 
 // Metric j, from 0, of a block.
@@ -53,6 +53,6 @@ pub fn metric_in(packet: &[u8], b: ReportBlock, j: usize) -> MetricAnswer
     let at = b.metrics_at + 2 * j;
     MetricAnswer::Reported {
         number: std::num::wrapping_add_u16(b.begin_seq, j as u16),
-        metric: metric::decode(octets::get16(packet, at)),
+        metric: metric_decode::decode(octets::get16(packet, at)),
     }
 }

@@ -1,9 +1,9 @@
--- `metric::decode` meets its contract. Assumes nothing.
+-- `metric_decode::decode` meets its contract. Assumes nothing.
 use borrow.Author.Tests.{lt-ltb, le-ltb, eq-eqb, ne-eqb}
 use Rattle.metric.specs.Metric.{decodeOf}
 use borrow.Author.Needs.{needs}
-use Rattle.metric.proofs.decode.Statement.{statement}
-use Rattle.metric.proofs.decode.Tie as tie
+use Rattle.metric_decode.proofs.decode.Statement.{statement}
+use Rattle.metric_decode.proofs.decode.Tie as tie
 
 returns : tie.Need-returns
 unfolding decodeOf

@@ -1,0 +1,29 @@
+// Reading a metric back from its 16 bits.
+ghost use mathlib.Core.Path.{_≡_};
+ghost use Rattle.metric.specs.Metric.{decodeOf};
+use metric::MARK_UNIT;
+use metric::Metric;
+use metric::NO_TIME;
+use metric::OVER_RANGE;
+use metric::RECEIVED;
+
+// What a metric says.
+pub fn decode(m: u16) -> Metric
+    ensures value { λ r. ⌜ r ≡ decodeOf m ⌝ }
+{
+    if m < RECEIVED {
+        return Metric::NotReceived;
+    }
+    let mark = (m / MARK_UNIT % 4) as u8;
+    let offset = m % MARK_UNIT;
+    if offset == NO_TIME {
+        return Metric::NoTime { mark: mark };
+    }
+    if offset == OVER_RANGE {
+        return Metric::OverRange { mark: mark };
+    }
+    Metric::Received {
+        mark: mark,
+        offset: offset,
+    }
+}
