@@ -3,10 +3,10 @@
 use Prim.Native.Nat.{ℕ}
 use mathlib.Core.List.{List, [], _∷_}
 use Rattle.reader.specs.declared.Reading.{Reading}
-use Rattle.reader.specs.declared.BlockAnswer.{BlockAnswer}
+use Rattle.block_reader.specs.declared.BlockAnswer.{BlockAnswer}
 use Rattle.ccfb_calls.specs.Called.{Called, called, refusedWith}
 use Rattle.reader.specs.declared.Reading.the-variants as reading
-use Rattle.reader.specs.declared.BlockAnswer.the-variants as block
+use Rattle.block_reader.specs.declared.BlockAnswer.the-variants as block
 
 -- `ccfb_read`: sender, RTS, number of blocks
 abbrev pub readCalled : Reading → List ℕ → Called

@@ -1,10 +1,11 @@
 // The calls for C that read a packet: its sender, RTS and number of blocks, and block k.
 ghost use mathlib.Core.Path.{_≡_};
 ghost use mathlib.Core.List.{[], _∷_};
-ghost use Rattle.reader.specs.Reading.{decode, readOf, readBlock};
+ghost use Rattle.reader.specs.Reading.{decode, readOf};
+ghost use Rattle.block_reader.specs.Blocks.{readBlock};
 ghost use Rattle.ccfb_calls.specs.Called.{called};
 ghost use Rattle.ccfb_reader.specs.Packets.{readCalled, blockCalled};
-use reader::BlockAnswer;
+use block_reader::BlockAnswer;
 use reader::Reading;
 
 // The sender, RTS and the number of blocks. Refusals 21 to 28.
@@ -50,7 +51,7 @@ pub extern "C" fn ccfb_block(
         ≡ blockCalled (readBlock (now (packet .entry)) k)
         (now (ssrc .entry) ∷ now (begin .entry) ∷ now (count .entry) ∷ []) ⌝ }
 {
-    let answer = reader::block(packet, k);
+    let answer = block_reader::block(packet, k);
     match answer {
         BlockAnswer::Found(b) => {
             *ssrc = b.ssrc;

@@ -4,9 +4,9 @@ use Prim.Native.Nat.{ℕ, _*_}
 use mathlib.Core.List.{[], _∷_}
 use Rattle.refusal.specs.Numbers.{numberOf}
 use Rattle.reports.specs.declared.MetricAnswer.{MetricAnswer}
-use Rattle.reader.specs.declared.BlockAnswer.{BlockAnswer}
+use Rattle.block_reader.specs.declared.BlockAnswer.{BlockAnswer}
 use Rattle.ccfb_calls.specs.Called.{Called, called, refusedWith, caseBehind}
-use Rattle.reader.specs.declared.BlockAnswer.the-variants as block
+use Rattle.block_reader.specs.declared.BlockAnswer.the-variants as block
 use Rattle.reports.specs.declared.MetricAnswer.the-variants as metric
 
 -- `ccfb_block_metrics`: the part's offset, and how many octets it has; both 0 where refused

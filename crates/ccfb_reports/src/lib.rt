@@ -1,10 +1,10 @@
 // The calls for C that read the reports of block k of a packet: where its metrics are, and metric j.
 ghost use mathlib.Core.Path.{_≡_};
 ghost use mathlib.Core.List.{[], _∷_};
-ghost use Rattle.reader.specs.Reading.{readBlock, readMetric};
+ghost use Rattle.block_reader.specs.Blocks.{readBlock, readMetric};
 ghost use Rattle.ccfb_calls.specs.Called.{called};
 ghost use Rattle.ccfb_reports.specs.Reports.{partCalled, metricCalled};
-use reader::BlockAnswer;
+use block_reader::BlockAnswer;
 use reports::MetricAnswer;
 
 // The part of the packet that holds the metrics of block k: where it starts, and how many octets it has. Refusals 21 to
@@ -20,7 +20,7 @@ pub extern "C" fn ccfb_block_metrics(
         called r (now («metrics_at» .exit) ∷ now («metrics_length» .exit) ∷ [])
         ≡ partCalled (readBlock (now (packet .entry)) k) ⌝ }
 {
-    let found = reader::block(packet, k);
+    let found = block_reader::block(packet, k);
     match found {
         BlockAnswer::Found(part) => {
             *metrics_at = part.metrics_at;
@@ -51,7 +51,7 @@ pub extern "C" fn ccfb_metric(
         ≡ metricCalled (readMetric (now (packet .entry)) k j)
         (now (number .entry)) (now (case .entry)) (now (mark .entry)) (now (offset .entry)) ⌝ }
 {
-    let answer = reader::metric(packet, k, j);
+    let answer = block_reader::metric(packet, k, j);
     match answer {
         MetricAnswer::Reported {
             number: n,

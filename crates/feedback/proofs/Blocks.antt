@@ -12,14 +12,14 @@ use Rattle.lists.proofs.Cases.{never, split-le}
 use Rattle.lists.proofs.All.{all-left, all-right}
 use Rattle.walk.specs.Walk.{Walked, walked, stopped, walkOf}
 use Rattle.walk.specs.declared.ReportBlock.{ReportBlock}
-use Rattle.reader.specs.Reading.{nth, located}
+use Rattle.block_reader.specs.Blocks.{nth, located}
 use Rattle.cutting.specs.Cutting.{CutBlock, Cutting, following, numbersFrom, allBlocks, streamOf, Cuts}
 use Rattle.cutting.specs.declared.Request.{Request}
 use Rattle.cutting.proofs.Requests.{length-numbers}
 use Rattle.writer_laws.specs.Read.{requestOf, blockRead, blocksRead, cuttingRead}
 use Rattle.feedback.specs.Seen.{OfNumbers}
 use Rattle.feedback.proofs.Ranges.{Each, OfRequests, each-of-cutting}
-use Rattle.reader.specs.declared.BlockAnswer.the-variants as answer
+use Rattle.block_reader.specs.declared.BlockAnswer.the-variants as answer
 
 -- number j of a range
 number-at : (begin count j : ℕ) → begin < 65536 → j < count → getD (numbersFrom begin count) j 0 ≡ (begin + j) % 65536

@@ -13,10 +13,10 @@ use Rattle.history.specs.Calls.{Call, Store, storeRun, storeAnswers, Accepted, 
 use Rattle.history.specs.Meaning.{topOf, entriesOf, cellBy, AsArrivals}
 use Rattle.walk.specs.Walk.{walkOf}
 use Rattle.walk.specs.declared.ReportBlock.{ReportBlock}
-use Rattle.reader.specs.Reading.{located, reportedOf}
+use Rattle.block_reader.specs.Blocks.{located, reportedOf}
 use Rattle.cutting.specs.declared.Request.{Request}
 use Rattle.writer_laws.specs.Read.{packetsIn, Report}
-use Rattle.reader.specs.declared.BlockAnswer.the-variants as answer
+use Rattle.block_reader.specs.declared.BlockAnswer.the-variants as answer
 use Rattle.reports.specs.declared.MetricAnswer.the-variants as asked
 
 -- the full number of s in the window that ends with the full number top

@@ -17,8 +17,10 @@ use Rattle.walk.specs.Walk.{Walked, walked, stopped, walkOf}
 use Rattle.walk.specs.declared.ReportBlock.{ReportBlock}
 use Rattle.walk.proofs.Walks.{walk-ind}
 use Rattle.reports.specs.Reports.{reportedIn, caseAt, Within}
-use Rattle.reader.specs.Reading.{packet, metricsAt, blockIn, packetIn, decoded, decode, nth, readBlock, metricsPart, reportedOf, readMetric}
-use Rattle.reader.proofs.Answers.{length-metricsAt, walked-sound, within}
+use Rattle.reader.specs.Reading.{packet, metricsAt, blockIn, packetIn, decoded, decode}
+use Rattle.reader.proofs.Answers.{length-metricsAt, walked-sound}
+use Rattle.block_reader.specs.Blocks.{nth, readBlock, metricsPart, reportedOf, readMetric}
+use Rattle.block_reader.proofs.Answers.{within}
 use Rattle.rewriter.proofs.Output.{octets-read}
 use Rattle.packet_laws.specs.Asked.{laid, metricsOf, blockMetric, packetMetric, caseOf}
 use Rattle.packet_laws.proofs.Back.{back-metrics}

@@ -9,11 +9,12 @@ use Rattle.octets.specs.Output.{outputAfter}
 use Rattle.metric.specs.Metric.{decodeOf}
 use Rattle.packet.specs.Packet.{Packet, encodeMetrics, filler, encodeBlock, encodeBlocks, encodePacket}
 use Rattle.walk.specs.Walk.{startOf, fillerAt, stepAt, walk, walkOf}
-use Rattle.reader.specs.Reading.{packet, refused, metricsAt, decode, readBlock, readMetric}
+use Rattle.reader.specs.Reading.{packet, refused, metricsAt, decode}
+use Rattle.block_reader.specs.Blocks.{readBlock, readMetric}
 use Rattle.rewriter.specs.Rewrite.{rewriteOf}
 use Rattle.refusal.specs.declared.Refusal.the-variants.{OutputTooShort, PacketTooShort, BadVersion, BadType, BadLength, Padded, RunsIntoRts, TooManyReports, FillerNotZero, NoBlock, NoNumber}
 use Rattle.metric.specs.declared.Metric.the-variants.{NotReceived, Received}
-use Rattle.reader.specs.declared.BlockAnswer.the-variants as answer
+use Rattle.block_reader.specs.declared.BlockAnswer.the-variants as answer
 use Rattle.reports.specs.declared.MetricAnswer.the-variants.{Reported, Refused}
 use Rattle.rewriter.specs.declared.Rewriting.the-variants as rewriting
 

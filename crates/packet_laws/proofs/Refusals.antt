@@ -22,10 +22,10 @@ use Rattle.walk.proofs.Starts.{too-short, bad-version, bad-type, bad-format, ba
 use Rattle.walk.proofs.Steps.{step-end, step-no-header, step-many, step-overrun, step-filler, step-found, found, next-at, next-room}
 use Rattle.walk.proofs.Walks.{walk-block, walk-end, walk-refused, walk-ind}
 use Rattle.reports.specs.Reports.{reportedIn}
-use Rattle.reader.specs.Reading.{Decoded, packet, refused, blockIn, packetIn, decoded, decode}
-use Rattle.reader.specs.Reading.{readOf, nth, located, readBlock, metricsPart, reportedOf, readMetric}
-use Rattle.reader.specs.declared.BlockAnswer.{BlockAnswer}
+use Rattle.reader.specs.Reading.{Decoded, packet, refused, blockIn, packetIn, decoded, decode, readOf}
 use Rattle.reader.proofs.Answers.{walked-sound}
+use Rattle.block_reader.specs.Blocks.{nth, located, readBlock, metricsPart, reportedOf, readMetric}
+use Rattle.block_reader.specs.declared.BlockAnswer.{BlockAnswer}
 use Rattle.rewriter.specs.Rewrite.{rewriteOf}
 use Rattle.rewriter.specs.declared.Rewriting.{Rewriting}
 use Rattle.packet_laws.specs.Asked.{metricsOf, packetMetric}
@@ -38,7 +38,7 @@ use Rattle.packet.specs.Packet as form
 use Rattle.walk.specs.declared.Start.the-variants as start
 use Rattle.walk.specs.declared.Step.the-variants.{Block, End, Refused}
 use Rattle.reader.specs.declared.Reading.the-variants as reading
-use Rattle.reader.specs.declared.BlockAnswer.the-variants as answer
+use Rattle.block_reader.specs.declared.BlockAnswer.the-variants as answer
 use Rattle.reports.specs.declared.MetricAnswer.the-variants as reported
 use Rattle.rewriter.specs.declared.Rewriting.the-variants as rewriting
 use Rattle.packet_laws.specs.Refused as given

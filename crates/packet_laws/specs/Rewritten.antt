@@ -3,7 +3,8 @@ use Prim.Native.Nat.{ℕ}
 use mathlib.Core.Path.{_≡_}
 use mathlib.Core.List.{List}
 use lib.ListN.{length, take, drop}
-use Rattle.reader.specs.Reading.{decode, readOf, readBlock, readMetric}
+use Rattle.reader.specs.Reading.{decode, readOf}
+use Rattle.block_reader.specs.Blocks.{readBlock, readMetric}
 
 -- reading the octets t gives the answers that reading s gives: sender, RTS and number of blocks; each block;
 -- each metric's number and case

@@ -23,7 +23,8 @@ use Rattle.packet.proofs.Sizes.{length-packet}
 use Rattle.walk.specs.Walk.{Walked}
 use Rattle.walk.specs.declared.ReportBlock.{ReportBlock}
 use Rattle.reports.specs.declared.MetricAnswer.{MetricAnswer}
-use Rattle.reader.specs.Reading.{Decoded, decode, nth, located}
+use Rattle.reader.specs.Reading.{Decoded, decode}
+use Rattle.block_reader.specs.Blocks.{nth, located}
 use Rattle.packet_laws.specs.Asked.{laidBlock, laid, blockMetric, packetMetric}
 use Rattle.packet_laws.proofs.Asked.{metric-asked}
 use Rattle.packet_laws.proofs.ReadBack.{read-back, walk-back}
@@ -38,7 +39,7 @@ use Rattle.writer_laws.specs.Read.{firstOctets, walkLengths, packetsIn, 
 use Rattle.writer_laws.proofs.Small.{Small, metricAsked}
 use Rattle.lists.specs.declared.Found.the-variants.{At, Nothing}
 use Rattle.packet.specs.Packet as packet
-use Rattle.reader.specs.declared.BlockAnswer.the-variants as answer
+use Rattle.block_reader.specs.declared.BlockAnswer.the-variants as answer
 use Rattle.reports.specs.declared.MetricAnswer.the-variants as asked
 
 -- ---- the walk over length fields

@@ -17,13 +17,14 @@ use Rattle.place_window.specs.Window.{cellAt}
 use Rattle.cells.specs.Cell.{readCell}
 use Rattle.walk.specs.Walk.{Walked, walked, stopped, walkOf}
 use Rattle.walk.specs.declared.ReportBlock.{ReportBlock}
-use Rattle.reader.specs.Reading.{Decoded, decode, located, reportedOf}
+use Rattle.reader.specs.Reading.{Decoded, decode}
+use Rattle.block_reader.specs.Blocks.{located, reportedOf}
 use Rattle.cutting.specs.Cutting.{CutBlock, CutPacket, Cutting, Cuts}
 use Rattle.cutting.specs.declared.Request.{Request}
 use Rattle.blocks.specs.Packets.{packetsFor}
 use Rattle.metric.specs.declared.Metric.the-variants.{NotReceived}
 use Rattle.lists.specs.declared.Found.the-variants.{At, Nothing}
-use Rattle.reader.specs.declared.BlockAnswer.the-variants as answer
+use Rattle.block_reader.specs.declared.BlockAnswer.the-variants as answer
 use Rattle.reports.specs.declared.MetricAnswer.the-variants as asked
 
 -- ---- the packets that walking the length fields finds

@@ -1,6 +1,6 @@
 -- `ccfb_reader::ccfb_block` meets its contract. Assumes nothing.
 use mathlib.Core.List.{[], _∷_}
-use Rattle.reader.specs.declared.BlockAnswer.{BlockAnswer}
+use Rattle.block_reader.specs.declared.BlockAnswer.{BlockAnswer}
 use Rattle.ccfb_calls.proofs.Told.{told}
 use Rattle.ccfb_reader.specs.Packets.{blockCalled}
 use borrow.Author.Needs.{needs}

@@ -1,8 +1,8 @@
--- `reader::block_from` meets its contract. Assumes nothing.
-use Rattle.reader.proofs.Answers.{block-found, block-stopped, block-none, block-refused}
+-- `block_reader::block_from` meets its contract. Assumes nothing.
+use Rattle.block_reader.proofs.Answers.{block-found, block-stopped, block-none, block-refused}
 use borrow.Author.Needs.{needs}
-use Rattle.reader.proofs.block_from.Statement.{statement}
-use Rattle.reader.proofs.block_from.Tie as tie
+use Rattle.block_reader.proofs.block_from.Statement.{statement}
+use Rattle.block_reader.proofs.block_from.Tie as tie
 
 returns : tie.Need-returns
 returns c =

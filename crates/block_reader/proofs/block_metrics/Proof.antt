@@ -1,7 +1,7 @@
--- `reader::block_metrics` meets its contract. Assumes nothing.
+-- `block_reader::block_metrics` meets its contract. Assumes nothing.
 use borrow.Author.Needs.{needs}
-use Rattle.reader.proofs.block_metrics.Statement.{statement}
-use Rattle.reader.proofs.block_metrics.Tie as tie
+use Rattle.block_reader.proofs.block_metrics.Statement.{statement}
+use Rattle.block_reader.proofs.block_metrics.Tie as tie
 
 returns : tie.Need-returns
 returns c =

@@ -1,11 +1,11 @@
--- `reader::after_blocks` meets its contract. The invariant: what is left to pass leads from here to
+-- `block_reader::after_blocks` meets its contract. The invariant: what is left to pass leads from here to
 -- where k blocks lead from the start. Assumes nothing.
 use mathlib.Core.Path.{_≡_, refl, _∙_}
-use Rattle.reader.specs.Steps.{afterBlocks}
-use Rattle.reader.proofs.Answers.{after-none, after-block, after-end, after-refused}
+use Rattle.block_reader.specs.Steps.{afterBlocks}
+use Rattle.block_reader.proofs.Answers.{after-none, after-block, after-end, after-refused}
 use borrow.Author.Needs.{needs}
-use Rattle.reader.proofs.after_blocks.Statement.{statement}
-use Rattle.reader.proofs.after_blocks.Tie as tie
+use Rattle.block_reader.proofs.after_blocks.Statement.{statement}
+use Rattle.block_reader.proofs.after_blocks.Tie as tie
 
 abbrev Inv-loop : tie.InvT-loop
 Inv-loop packet k cursor₀ left₀ cursor left = afterBlocks left packet (cursor .at) ≡ afterBlocks k packet (cursor₀ .at)

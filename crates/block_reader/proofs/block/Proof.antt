@@ -1,8 +1,8 @@
--- `reader::block` meets its contract. Assumes nothing.
+-- `block_reader::block` meets its contract. Assumes nothing.
 use Rattle.reader.proofs.Answers.{start-at, start-refused}
 use borrow.Author.Needs.{needs}
-use Rattle.reader.proofs.block.Statement.{statement}
-use Rattle.reader.proofs.block.Tie as tie
+use Rattle.block_reader.proofs.block.Statement.{statement}
+use Rattle.block_reader.proofs.block.Tie as tie
 
 returns : tie.Need-returns
 returns c =

@@ -1,9 +1,9 @@
--- `reader::metric` meets its contract. Assumes nothing.
+-- `block_reader::metric` meets its contract. Assumes nothing.
 use mathlib.Core.Path.{sym, _∙_}
-use Rattle.reader.proofs.Answers.{located-within}
+use Rattle.block_reader.proofs.Answers.{located-within}
 use borrow.Author.Needs.{needs}
-use Rattle.reader.proofs.metric.Statement.{statement}
-use Rattle.reader.proofs.metric.Tie as tie
+use Rattle.block_reader.proofs.metric.Statement.{statement}
+use Rattle.block_reader.proofs.metric.Tie as tie
 
 metric-in-requires : tie.Need-metric-in-requires
 metric-in-requires c κs =
