@@ -47,7 +47,7 @@ fn block_from(packet: &[u8], from: Cursor, k: usize) -> BlockAnswer
     let here = after_blocks(packet, from, k);
     match here {
         Step::Block(b, next) => {
-            let rest = reader::count_from(packet, next);
+            let rest = reader::count_blocks_from(packet, next);
             match rest {
                 Count::Blocks(_) => BlockAnswer::Found(b),
                 Count::Stopped(e) => BlockAnswer::Refused(e),

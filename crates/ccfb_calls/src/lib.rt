@@ -6,13 +6,13 @@ ghost use Rattle.ccfb_calls.specs.Called.{called, caseCalled};
 use metric::Metric;
 
 // The cases of a metric, as include/ccfb.h numbers them.
-const NOT_RECEIVED: u8 = 0;
+const CASE_NOT_RECEIVED: u8 = 0;
 
-const RECEIVED: u8 = 1;
+const CASE_RECEIVED: u8 = 1;
 
-const OVER_RANGE: u8 = 2;
+const CASE_OVER_RANGE: u8 = 2;
 
-const NO_TIME: u8 = 3;
+const CASE_NO_TIME: u8 = 3;
 
 // Writes the mark and the offset of a case, where it has them, and answers the number of the case.
 pub fn put_case(case: Metric, mark: &mut u8, offset: &mut u16) -> u8
@@ -21,19 +21,19 @@ pub fn put_case(case: Metric, mark: &mut u8, offset: &mut u16) -> u8
         ≡ caseCalled case (now (mark .entry)) (now (offset .entry)) ⌝ }
 {
     match case {
-        Metric::NotReceived => NOT_RECEIVED,
+        Metric::NotReceived => CASE_NOT_RECEIVED,
         Metric::Received { mark: m, offset: o } => {
             *mark = m;
             *offset = o;
-            RECEIVED
+            CASE_RECEIVED
         }
         Metric::OverRange { mark: m } => {
             *mark = m;
-            OVER_RANGE
+            CASE_OVER_RANGE
         }
         Metric::NoTime { mark: m } => {
             *mark = m;
-            NO_TIME
+            CASE_NO_TIME
         }
     }
 }

@@ -1,7 +1,7 @@
 // The calls for C that read a packet: its sender, RTS and number of blocks, and block k.
 ghost use mathlib.Core.Path.{_≡_};
 ghost use mathlib.Core.List.{[], _∷_};
-ghost use Rattle.reader.specs.Reading.{decode, readOf};
+ghost use Rattle.reader.specs.Reading.{decodePacket, readOf};
 ghost use Rattle.block_reader.specs.Blocks.{readBlock};
 ghost use Rattle.ccfb_calls.specs.Called.{called};
 ghost use Rattle.ccfb_reader.specs.Packets.{readCalled, blockCalled};
@@ -18,7 +18,7 @@ pub extern "C" fn ccfb_read(
 ) -> u8
     ensures after { λ r. ⌜
         called r (now (sender .exit) ∷ now (rts .exit) ∷ now (blocks .exit) ∷ [])
-        ≡ readCalled (readOf (decode (now (packet .entry))))
+        ≡ readCalled (readOf (decodePacket (now (packet .entry))))
         (now (sender .entry) ∷ now (rts .entry) ∷ now (blocks .entry) ∷ []) ⌝ }
 {
     let answer = reader::read(packet);

@@ -1,6 +1,6 @@
 // The call for C that rewrites a packet.
 ghost use mathlib.Core.Path.{_≡_};
-ghost use Rattle.reader.specs.Reading.{decode};
+ghost use Rattle.reader.specs.Reading.{decodePacket};
 ghost use Rattle.rewriter.specs.Rewrite.{rewriteOf};
 ghost use Rattle.ccfb_rewriter.specs.Rewriting.{rewrote, rewriteCalled};
 use rewriter::Rewriting;
@@ -10,7 +10,7 @@ use rewriter::Rewriting;
 pub extern "C" fn ccfb_rewrite(packet: &[u8], out: &mut [u8], written: &mut usize) -> u8
     ensures after { λ r. ⌜
         rewrote r (now (written .exit)) (now (out .exit))
-        ≡ rewriteCalled (rewriteOf (decode (now (packet .entry))) (now (out .entry))) (now (written .entry)) ⌝ }
+        ≡ rewriteCalled (rewriteOf (decodePacket (now (packet .entry))) (now (out .entry))) (now (written .entry)) ⌝ }
 {
     let answer = rewriter::rewrite(packet, out);
     match answer {

@@ -7,12 +7,12 @@ use metric::NO_TIME;
 use metric::TIMES;
 use metric::Time;
 
-// A word has one of 16 kinds: one of FILLED or more is filled, one of TIMED or more at a known time.
+// A word has one of 16 kinds: one of LEAST_FILLED or more is filled, one of LEAST_TIMED or more at a known time.
 const KINDS: u64 = 16;
 
-const FILLED: u64 = 8;
+const LEAST_FILLED: u64 = 8;
 
-const TIMED: u64 = 12;
+const LEAST_TIMED: u64 = 12;
 
 // The mark of a filled cell after a copy.
 pub fn fold_mark(held: u8, copy: u8) -> u8
@@ -26,8 +26,8 @@ pub fn filled_word(mark: u8, time: Time) -> u64
     ensures value { λ r. ⌜ r ≡ filledWord mark time ⌝ }
 {
     match time {
-        Time::Unknown => FILLED + (mark as u64),
-        Time::Known(t) => TIMED + (mark as u64) + KINDS * (t as u64),
+        Time::Unknown => LEAST_FILLED + (mark as u64),
+        Time::Known(t) => LEAST_TIMED + (mark as u64) + KINDS * (t as u64),
     }
 }
 
@@ -35,7 +35,7 @@ pub fn filled_word(mark: u8, time: Time) -> u64
 pub fn word_after(word: u64, mark: u8, time: Time) -> u64
     ensures value { λ r. ⌜ r ≡ wordAfter mark time word ⌝ }
 {
-    if word % KINDS < FILLED {
+    if word % KINDS < LEAST_FILLED {
         return filled_word(mark, time);
     }
     word / 4 * 4 + (fold_mark((word % 4) as u8, mark) as u64)
@@ -49,7 +49,7 @@ pub fn metric_of_word(word: u64, rts: u32) -> u16
     let kind = word % KINDS;
     let time = (word / KINDS % TIMES) as u32;
     let timed = metric::ato_of_age(metric::age(rts, time));
-    let ato = if kind < TIMED { NO_TIME } else { timed };
+    let ato = if kind < LEAST_TIMED { NO_TIME } else { timed };
     let filled = metric::assembled((word % 4) as u8, ato);
-    if kind < FILLED { 0 } else { filled }
+    if kind < LEAST_FILLED { 0 } else { filled }
 }

@@ -4,10 +4,11 @@ use mathlib.Core.Path.{_≡_}
 use mathlib.Core.Logic.{_≢_}
 use mathlib.Core.Bool.{cond}
 use mathlib.Core.List.{List, [], _∷_, _++_, map}
-use Prim.Native.Nat.{ℕ, zero, suc, _+_, _*_, _/_, _%_, _^_, _≤_, _<_}
+use Prim.Native.Nat.{ℕ, zero, suc, _+_, _*_, _/_, _%_, _≤_, _<_}
 use lib.ListN.{length}
 use lib.Dec.{eqb}
 use Rattle.lists.specs.All.{All}
+use Rattle.window.specs.Number.{sequenceNumbers}
 use Rattle.packet.specs.Sizes.{packetOctets}
 use Rattle.cutting.specs.declared.Request.{Request}
 
@@ -30,7 +31,7 @@ Cutting = List CutPacket
 
 -- the next number; 0 follows 65535
 abbrev pub following : ℕ → ℕ
-following s = (s + 1) % 2 ^ 16
+following s = (s + 1) % sequenceNumbers
 
 -- k numbers in rising order, starting at s
 abbrev pub numbersFrom : ℕ → ℕ → List ℕ

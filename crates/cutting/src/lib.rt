@@ -14,7 +14,7 @@ pub const LEAST_LIMIT: usize = 24;
 pub const MOST_LIMIT: usize = 9000;
 
 // The smallest block that reports a number.
-const LEAST_FILLED: usize = BLOCK_HEADER_OCTETS + 4;
+const LEAST_BLOCK: usize = BLOCK_HEADER_OCTETS + 4;
 
 // A request to report `count` numbers of a stream, starting at `begin`.
 #[repr(C)]
@@ -36,7 +36,7 @@ pub fn numbers_in(room: usize) -> u16
     requires small { ⌜ room ≤ mostLimit ⌝ }
     ensures value { λ r. ⌜ r ≡ fitting room ⌝ }
 {
-    if room < LEAST_FILLED {
+    if room < LEAST_BLOCK {
         0
     } else {
         ((room - BLOCK_HEADER_OCTETS) / 4 * 2) as u16

@@ -19,7 +19,7 @@ use Rattle.places.specs.Place.{placeAt, isStream, findOf}
 use Rattle.place_window.specs.Window.{cellAt}
 use Rattle.cells.specs.Cell.{readCell}
 use Rattle.store.specs.Store.{placeOf, cellMetric}
-use Rattle.history.specs.Calls.{Call, arrive, forget, Answer, Store, storeRun, storeAnswers, Accepted, acceptedOf, isDone, heard, heardAll, CallInRange}
+use Rattle.history.specs.Calls.{Call, arrive, forget, CallAnswer, Store, storeRun, storeAnswers, Accepted, acceptedOf, isDone, heard, heardAll, CallInRange}
 use Rattle.history.specs.Meaning.{Entry, fullOf, firstFull, entryOf, countFrom, topFrom, entriesOf, topOf, AsArrivals, EntryInRange, AcceptedInRange}
 use Rattle.history.specs.Model.{Place, free, names, at, modelPlace, modelStep, modelAnswer, modelRun, modelAnswers, vacant}
 use Rattle.history.specs.Reading.{Holds, Reads, Fresh}
@@ -117,7 +117,7 @@ module _ (st : Store) (new : Fresh st) (cs : List Call) (range : All CallInRange
   same-place k = place-alike (storeRun st cs) model same-reading k
 
   kept : Kept model history
-  kept = subst (λ (xs : List Answer). Kept model (λ (y : ℕ). acceptedOf y cs xs)) (sym same-answers)
+  kept = subst (λ (xs : List CallAnswer). Kept model (λ (y : ℕ). acceptedOf y cs xs)) (sym same-answers)
       (run-kept cs (vacant (length (st .places))) (λ (y : ℕ). []) (vacant-kept (length (st .places))))
 
   -- no SSRC in two places

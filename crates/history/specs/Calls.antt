@@ -19,17 +19,17 @@ pub data Call : Type 0 where
   arrive : ℕ → ℕ → ℕ → Time → Call
   forget : ℕ → Call
 
-pub data Answer : Type 0 where
-  toArrival : Arrival → Answer
-  toForgetting : Forgetting → Answer
+pub data CallAnswer : Type 0 where
+  toArrival : Arrival → CallAnswer
+  toForgetting : Forgetting → CallAnswer
 
 -- any store that takes these calls: what each call leaves, and its answer
-module _ {S : Type 0} (step : S → Call → S) (answer : S → Call → Answer) where
+module _ {S : Type 0} (step : S → Call → S) (answer : S → Call → CallAnswer) where
   abbrev pub run : S → List Call → S
   run s [] = s
   run s (c ∷ cs) = run (step s c) cs
 
-  abbrev pub answers : S → List Call → List Answer
+  abbrev pub answers : S → List Call → List CallAnswer
   answers s [] = []
   answers s (c ∷ cs) = answer s c ∷ answers (step s c) cs
 
@@ -44,14 +44,14 @@ storeStep st (arrive ssrc number mark time) =
     record { places = o .places; cells = o .cells }
 storeStep st (forget ssrc) = record { places = forgotten (st .places) (st .cells) ssrc .places; cells = st .cells }
 
-abbrev pub storeAnswer : Store → Call → Answer
+abbrev pub storeAnswer : Store → Call → CallAnswer
 storeAnswer st (arrive ssrc number mark time) = toArrival (arrived (st .places) (st .cells) ssrc number mark time .answer)
 storeAnswer st (forget ssrc) = toForgetting (forgotten (st .places) (st .cells) ssrc .answer)
 
 abbrev pub storeRun : Store → List Call → Store
 storeRun st cs = run storeStep storeAnswer st cs
 
-abbrev pub storeAnswers : Store → List Call → List Answer
+abbrev pub storeAnswers : Store → List Call → List CallAnswer
 storeAnswers st cs = answers storeStep storeAnswer st cs
 
 -- an accepted arrival of a stream
@@ -60,7 +60,7 @@ pub record Accepted : Type 0 where
   pub mark : ℕ
   pub time : Time
 
-abbrev pub isDone : Answer → Bool
+abbrev pub isDone : CallAnswer → Bool
 isDone (toArrival arrival.Accepted) = true
 isDone (toArrival (arrival.Refused e)) = false
 isDone (toForgetting forgetting.Forgotten) = true
@@ -73,14 +73,14 @@ heard ssrc past (arrive x number mark time) done =
 heard ssrc past (forget x) done = cond (eqb x ssrc && done) [] past
 
 -- those after all calls, by the answers to them
-abbrev pub heardAll : ℕ → List Accepted → List Call → List Answer → List Accepted
+abbrev pub heardAll : ℕ → List Accepted → List Call → List CallAnswer → List Accepted
 heardAll ssrc past [] xs = past
 heardAll ssrc past (c ∷ cs) [] = past
 heardAll ssrc past (c ∷ cs) (x ∷ xs) = heardAll ssrc (heard ssrc past c (isDone x)) cs xs
 
 -- the accepted arrivals of a stream since it took its place, in the order of the calls: of all calls to a
 -- fresh store, and the answers to them
-abbrev pub acceptedOf : ℕ → List Call → List Answer → List Accepted
+abbrev pub acceptedOf : ℕ → List Call → List CallAnswer → List Accepted
 acceptedOf ssrc cs xs = heardAll ssrc [] cs xs
 
 -- what the types of a call's parameters say of them

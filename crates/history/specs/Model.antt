@@ -12,7 +12,7 @@ use Rattle.metric.specs.declared.Time.{Time}
 use Rattle.arrivals.specs.declared.Arrival.{Arrival}
 use Rattle.store.specs.declared.Forgetting.{Forgetting}
 use Rattle.store.specs.declared.PlaceAnswer.{PlaceAnswer}
-use Rattle.history.specs.Calls.{Call, arrive, forget, Answer, toArrival, toForgetting, run, answers}
+use Rattle.history.specs.Calls.{Call, arrive, forget, CallAnswer, toArrival, toForgetting, run, answers}
 use Rattle.history.specs.Meaning.{Entry, fullOf, firstFull}
 use Rattle.metric.specs.Metric.{congested}
 use Rattle.window.specs.Number.{sequenceNumbers}
@@ -107,14 +107,14 @@ abbrev pub modelStep : List Place → Call → List Place
 modelStep ps (arrive ssrc number mark time) = modelArrived ps ssrc number mark time .places
 modelStep ps (forget ssrc) = modelForgot ps ssrc .places
 
-abbrev pub modelAnswer : List Place → Call → Answer
+abbrev pub modelAnswer : List Place → Call → CallAnswer
 modelAnswer ps (arrive ssrc number mark time) = toArrival (modelArrived ps ssrc number mark time .answer)
 modelAnswer ps (forget ssrc) = toForgetting (modelForgot ps ssrc .answer)
 
 abbrev pub modelRun : List Place → List Call → List Place
 modelRun ps cs = run modelStep modelAnswer ps cs
 
-abbrev pub modelAnswers : List Place → List Call → List Answer
+abbrev pub modelAnswers : List Place → List Call → List CallAnswer
 modelAnswers ps cs = answers modelStep modelAnswer ps cs
 
 abbrev pub vacant : ℕ → List Place

@@ -12,9 +12,9 @@ use places::MOST_PLACES;
 use refusal::Refusal;
 
 // How many numbers of each stream are asked for, and how far before the highest they begin.
-const NEWEST: u16 = 4;
+const NEWEST_NUMBERS: u16 = 4;
 
-const BACK: u16 = NEWEST - 1;
+const BACK: u16 = NEWEST_NUMBERS - 1;
 
 // Writes the report on the newest four numbers of each stream, in place order, to the front of the output: how many octets.
 pub fn report(places: &[u64], cells: &[u64], rts: u32, out: &mut [u8]) -> usize
@@ -42,7 +42,7 @@ pub fn report(places: &[u64], cells: &[u64], rts: u32, out: &mut [u8]) -> usize
                 requests[n] = Request {
                     ssrc: ssrc,
                     begin: window::distance(highest, BACK),
-                    count: NEWEST,
+                    count: NEWEST_NUMBERS,
                 };
                 n += 1;
             }

@@ -11,9 +11,9 @@ use places::MOST_PLACES;
 use writer::Answer;
 
 // The SSRC of the packet's sender, and the packet's limit in octets.
-const SENDER: u32 = 0x000000F1;
+const LINE_SENDER: u32 = 0x000000F1;
 
-const LIMIT: usize = 1200;
+const LINE_LIMIT: usize = 1200;
 
 // Room for a packet on 16 streams, four numbers of each: 16 blocks of 16 octets, and 12 octets besides.
 const PACKET_ROOM: usize = 268;
@@ -43,7 +43,16 @@ pub fn put_report(
     ensures bound { λ r. ⌜ r ≤ lineRoom ⌝ }
 {
     let mut packet = packet_room();
-    let answer = writer::write(places, cells, SENDER, rts, LIMIT, requests, n, &mut packet);
+    let answer = writer::write(
+        places,
+        cells,
+        LINE_SENDER,
+        rts,
+        LINE_LIMIT,
+        requests,
+        n,
+        &mut packet,
+    );
     match answer {
         Answer::Written { packets, octets } => {
             if packets == 0 {

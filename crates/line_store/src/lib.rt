@@ -3,18 +3,18 @@ ghost use mathlib.Core.Path.{_≡_};
 ghost use Rattle.line_store.specs.Fresh.{freshPlaces, freshCells};
 use window::CELLS_OF_A_PLACE;
 
-const PLACES: usize = 4;
+const LINE_PLACES: usize = 4;
 
 // A store of four places, each free.
-pub fn fresh_places() -> [u64; PLACES]
+pub fn fresh_places() -> [u64; LINE_PLACES]
     ensures value { λ r. ⌜ r ≡ freshPlaces ⌝ }
 {
-    [0; PLACES]
+    [0; LINE_PLACES]
 }
 
 // Its cells, each empty.
-pub fn fresh_cells() -> [u64; PLACES * CELLS_OF_A_PLACE]
+pub fn fresh_cells() -> [u64; LINE_PLACES * CELLS_OF_A_PLACE]
     ensures value { λ r. ⌜ r ≡ freshCells ⌝ }
 {
-    [0; PLACES * CELLS_OF_A_PLACE]
+    [0; LINE_PLACES * CELLS_OF_A_PLACE]
 }

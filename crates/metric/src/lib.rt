@@ -25,7 +25,7 @@ pub const CONGESTED: u8 = 3;
 const U16S: u32 = 0x1_0000;
 
 // R, and the lowest bit of the mark.
-pub const RECEIVED: u16 = 0x8000;
+pub const RECEIVED_BIT: u16 = 0x8000;
 
 pub const MARK_UNIT: u16 = 0x2000;
 
@@ -99,7 +99,7 @@ pub fn assembled(mark: u8, ato: u16) -> u16
     requires bits { ⌜ ato < markUnit ⌝ }
     ensures value { λ r. ⌜ r ≡ assembledOf mark ato ⌝ }
 {
-    RECEIVED + MARK_UNIT * ((mark % 4) as u16) + ato
+    RECEIVED_BIT + MARK_UNIT * ((mark % 4) as u16) + ato
 }
 
 // The metric of a cell at RTS.

@@ -5,13 +5,13 @@ use metric::MARK_UNIT;
 use metric::Metric;
 use metric::NO_TIME;
 use metric::OVER_RANGE;
-use metric::RECEIVED;
+use metric::RECEIVED_BIT;
 
 // What a metric says.
 pub fn decode(m: u16) -> Metric
     ensures value { λ r. ⌜ r ≡ decodeOf m ⌝ }
 {
-    if m < RECEIVED {
+    if m < RECEIVED_BIT {
         return Metric::NotReceived;
     }
     let mark = (m / MARK_UNIT % 4) as u8;

@@ -17,7 +17,7 @@ use Rattle.walk.specs.Walk.{Walked, walked, stopped, walkOf}
 use Rattle.walk.specs.declared.ReportBlock.{ReportBlock}
 use Rattle.walk.proofs.Walks.{walk-ind}
 use Rattle.reports.specs.Reports.{reportedIn, caseAt, Within}
-use Rattle.reader.specs.Reading.{packet, metricsAt, blockIn, packetIn, decoded, decode}
+use Rattle.reader.specs.Reading.{packet, metricsAt, blockIn, packetIn, decoded, decodePacket}
 use Rattle.reader.proofs.Answers.{length-metricsAt, walked-sound}
 use Rattle.block_reader.specs.Blocks.{nth, readBlock, metricsPart, reportedOf, readMetric}
 use Rattle.block_reader.proofs.Answers.{within}
@@ -29,16 +29,16 @@ use Rattle.packet_laws.proofs.WrittenBack.{written-back}
 
 module _ (s : List ℕ) where
   -- a packet that is read was walked: its blocks are those of the walk
-  pub accepted : {P : Type 0} (p : Packet) → decode s ≡ packet p
+  pub accepted : {P : Type 0} (p : Packet) → decodePacket s ≡ packet p
       → ((bs : List ReportBlock) → walkOf s ≡ walked bs → p ≡ packetIn s bs → P) → P
-  unfolding decode
+  unfolding decodePacket
   accepted {P} p e then = by-walk (walkOf s) refl e
     where
       by-walk : (w : Walked) → walkOf s ≡ w → decoded w s ≡ packet p → P
       by-walk (walked bs) f g = then bs f (cc)
       by-walk (stopped x) f g = never (cc)
 
-  pub accepted-octets : (p : Packet) → decode s ≡ packet p → packetOctets (reportCounts (p .blocks)) ≡ length s
+  pub accepted-octets : (p : Packet) → decodePacket s ≡ packet p → packetOctets (reportCounts (p .blocks)) ≡ length s
   accepted-octets p e = accepted p e (λ bs f z. rw z (octets-read s bs f))
 
   -- ---- metrics
@@ -63,12 +63,12 @@ module _ (s : List ℕ) where
   metric-nth (b ∷ bs) (suc k) j = metric-nth bs k j
 
   -- metric j of block k is that of the packet
-  pub metric-asked : (p : Packet) → decode s ≡ packet p → (k j : ℕ) → readMetric s k j ≡ packetMetric (p .blocks) k j
+  pub metric-asked : (p : Packet) → decodePacket s ≡ packet p → (k j : ℕ) → readMetric s k j ≡ packetMetric (p .blocks) k j
   metric-asked p e k j = accepted p e (λ bs f z. rw (f, z) (metric-nth bs k j))
 
   module _ (octets : Octets s) where
     -- block k has the SSRC, begin and count of the packet's, and its metrics stand behind the blocks before it
-    pub block-asked : (p : Packet) → decode s ≡ packet p → (k : ℕ) → readBlock s k ≡ nth (laid 8 (p .blocks)) k
+    pub block-asked : (p : Packet) → decodePacket s ≡ packet p → (k : ℕ) → readBlock s k ≡ nth (laid 8 (p .blocks)) k
     block-asked p e k =
         let w = written-back s octets p e in
         let z : walkOf s ≡ walked (laid 8 (p .blocks)) = ap walkOf (w .octets) ∙ walk-back p (w .fit) in
@@ -88,7 +88,7 @@ module _ (s : List ℕ) where
     part-nth (b ∷ bs) a (suc k) = part-nth bs (a .1) k
 
     -- the part that is handed back holds the metrics of the block, 2 octets each, without the filler
-    pub part-asked : (p : Packet) → decode s ≡ packet p → (k : ℕ) → metricsPart (readBlock s k) s ≡ encodeMetrics (metricsOf (p .blocks) k)
+    pub part-asked : (p : Packet) → decodePacket s ≡ packet p → (k : ℕ) → metricsPart (readBlock s k) s ≡ encodeMetrics (metricsOf (p .blocks) k)
     part-asked p e k =
         accepted p e (λ bs f z.
         rw (f, z)

@@ -9,7 +9,7 @@ use Rattle.octets.specs.Output.{outputAfter}
 use Rattle.metric.specs.Metric.{decodeOf}
 use Rattle.packet.specs.Packet.{Packet, encodeMetrics, filler, encodeBlock, encodeBlocks, encodePacket}
 use Rattle.walk.specs.Walk.{startOf, fillerAt, stepAt, walk, walkOf}
-use Rattle.reader.specs.Reading.{packet, refused, metricsAt, decode}
+use Rattle.reader.specs.Reading.{packet, refused, metricsAt, decodePacket}
 use Rattle.block_reader.specs.Blocks.{readBlock, readMetric}
 use Rattle.rewriter.specs.Rewrite.{rewriteOf}
 use Rattle.refusal.specs.declared.Refusal.the-variants.{OutputTooShort, PacketTooShort, BadVersion, BadType, BadLength, Padded, RunsIntoRts, TooManyReports, FillerNotZero, NoBlock, NoNumber}
@@ -30,8 +30,8 @@ pub written-P : encodePacket case-P ≡ octets-P
 unfolding case-P octets-P encodePacket encodeBlocks encodeBlock encodeMetrics filler
 written-P = refl
 
-pub read-P : decode octets-P ≡ packet case-P
-unfolding case-P octets-P decode walkOf startOf walk stepAt fillerAt be16 be32 metricsAt
+pub read-P : decodePacket octets-P ≡ packet case-P
+unfolding case-P octets-P decodePacket walkOf startOf walk stepAt fillerAt be16 be32 metricsAt
 read-P = refl
 
 -- its metrics, numbers 65533 to 0, then no such number, and no such block
@@ -44,8 +44,8 @@ pub no-block-P : readBlock octets-P 1 ≡ answer.Refused NoBlock
 unfolding octets-P walkOf startOf walk stepAt fillerAt be16 be32
 no-block-P = refl
 
-pub no-room-P : rewriteOf (decode octets-P) [] ≡ outputAfter (rewriting.Refused OutputTooShort) []
-unfolding octets-P decode walkOf startOf walk stepAt fillerAt be16 be32 metricsAt
+pub no-room-P : rewriteOf (decodePacket octets-P) [] ≡ outputAfter (rewriting.Refused OutputTooShort) []
+unfolding octets-P decodePacket walkOf startOf walk stepAt fillerAt be16 be32 metricsAt
 no-room-P = refl
 
 -- octets 0 to 7 with sender 1, and RTS 9
@@ -56,7 +56,7 @@ pub rts : List ℕ
 rts = 0 ∷ 0 ∷ 0 ∷ 9 ∷ []
 
 -- twelve octets with length 2 are accepted, with no block; then refusals 21 to 28: of two faults the earlier counts
-pub edges : map decode (
+pub edges : map decodePacket (
     small 0x8b 0xcd 2 rts
     ∷ small 0x4b 0xcd 2 (0 ∷ 0 ∷ 0 ∷ [])
     ∷ small 0x4b 0xcc 2 rts
@@ -72,7 +72,7 @@ pub edges : map decode (
     ≡ packet (record { sender = 1; rts = 9; blocks = [] })
     ∷ refused PacketTooShort ∷ refused BadVersion ∷ refused BadType ∷ refused BadType ∷ refused BadLength ∷ refused Padded
     ∷ refused RunsIntoRts ∷ refused TooManyReports ∷ refused RunsIntoRts ∷ refused FillerNotZero ∷ []
-unfolding small rts decode walkOf startOf walk stepAt fillerAt be16 be32 metricsAt
+unfolding small rts decodePacket walkOf startOf walk stepAt fillerAt be16 be32 metricsAt
 edges = refl
 
 -- with these numbers

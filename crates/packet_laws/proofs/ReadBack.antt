@@ -9,7 +9,7 @@ use Rattle.packet.specs.Packet.{Block, Packet, encodeBlocks, encodePacket, Fit,
 use Rattle.packet.specs.Sizes.{blocksOctets, packetOctets}
 use Rattle.walk.specs.Walk.{rtsAt, startOf, walked, walkOf}
 use Rattle.walk.proofs.Starts.{sound}
-use Rattle.reader.specs.Reading.{packet, decode}
+use Rattle.reader.specs.Reading.{packet, decodePacket}
 use Rattle.reader.proofs.Answers.{start-at}
 use Rattle.packet_laws.specs.Asked.{laid}
 use Rattle.packet_laws.proofs.Here.{length-here, one-here, here-16, here-32, here-blocks}
@@ -29,8 +29,8 @@ unfolding encodePacket inParts
 in-parts p = refl
 
 -- the walk finds the blocks back to back, and the packet is read
-read-from : (p : Packet) → Fit p → (s : List ℕ) → drop 0 s ≡ inParts p → (walkOf s ≡ walked (laid 8 (p .blocks))) × (decode s ≡ packet p)
-unfolding inParts decode
+read-from : (p : Packet) → Fit p → (s : List ℕ) → drop 0 s ≡ inParts p → (walkOf s ≡ walked (laid 8 (p .blocks))) × (decodePacket s ≡ packet p)
+unfolding inParts decodePacket
 read-from p fit s e =
     let bs = p .blocks in
     let e₁ = one-here s 0 0x8B _ e in
@@ -47,7 +47,7 @@ read-from p fit s e =
     let walks : walkOf s ≡ walked (laid 8 bs) = start-at s _ _ h refl ∙ w .walks in
     (walks, rw (walks, w .are, e₄ .0, z, e₅ .0))
 
-pub read-back : (p : Packet) → Fit p → decode (encodePacket p) ≡ packet p
+pub read-back : (p : Packet) → Fit p → decodePacket (encodePacket p) ≡ packet p
 read-back p fit = read-from p fit (encodePacket p) (in-parts p) .1
 
 pub walk-back : (p : Packet) → Fit p → walkOf (encodePacket p) ≡ walked (laid 8 (p .blocks))
@@ -55,4 +55,4 @@ walk-back p fit = read-from p fit (encodePacket p) (in-parts p) .0
 
 -- packets whose fields fit are told apart by their octets
 pub encode-different : (p q : Packet) → Fit p → Fit q → encodePacket p ≡ encodePacket q → p ≡ q
-encode-different p q f g e = let z : packet p ≡ packet q = sym (read-back p f) ∙ ap decode e ∙ read-back q g in cc
+encode-different p q f g e = let z : packet p ≡ packet q = sym (read-back p f) ∙ ap decodePacket e ∙ read-back q g in cc

@@ -22,7 +22,7 @@ use Rattle.walk.proofs.Starts.{too-short, bad-version, bad-type, bad-format, ba
 use Rattle.walk.proofs.Steps.{step-end, step-no-header, step-many, step-overrun, step-filler, step-found, found, next-at, next-room}
 use Rattle.walk.proofs.Walks.{walk-block, walk-end, walk-refused, walk-ind}
 use Rattle.reports.specs.Reports.{reportedIn}
-use Rattle.reader.specs.Reading.{Decoded, packet, refused, blockIn, packetIn, decoded, decode, readOf}
+use Rattle.reader.specs.Reading.{Decoded, packet, refused, blockIn, packetIn, decoded, decodePacket, readOf}
 use Rattle.reader.proofs.Answers.{walked-sound}
 use Rattle.block_reader.specs.Blocks.{nth, located, readBlock, metricsPart, reportedOf, readMetric}
 use Rattle.block_reader.specs.declared.BlockAnswer.{BlockAnswer}
@@ -186,8 +186,8 @@ module _ (s : List ℕ) where
       by-start (start.Refused x) g h = let z : x ≡ e = cc in start-given e (g ∙ ap start.Refused z)
 
   -- a refusal is given only if its condition holds, and none before it
-  pub refused-given : (e : Refusal) → decode s ≡ refused e → ReadingGiven s e
-  unfolding decode
+  pub refused-given : (e : Refusal) → decodePacket s ≡ refused e → ReadingGiven s e
+  unfolding decodePacket
   refused-given e h = by-walk (walkOf s) refl h
     where
       by-walk : (w : Walked) → walkOf s ≡ w → decoded w s ≡ refused e → ReadingGiven s e
@@ -214,18 +214,18 @@ module _ (s : List ℕ) where
   given-stopped e (given.inBlock at h w f) = sound-walk h ∙ walks-stopped (rts-words (be16 s 2) (length s) (h .3)) 8 at e refl w f
 
   -- and it is given if it does
-  pub given-refused : (e : Refusal) → ReadingGiven s e → decode s ≡ refused e
-  unfolding decode
+  pub given-refused : (e : Refusal) → ReadingGiven s e → decodePacket s ≡ refused e
+  unfolding decodePacket
   given-refused e g = rw (given-stopped e g)
 
-  pub read-refused-given : (e : Refusal) → readOf (decode s) ≡ reading.Refused e → ReadingGiven s e
-  read-refused-given e h = by-decoded (decode s) refl h
+  pub read-refused-given : (e : Refusal) → readOf (decodePacket s) ≡ reading.Refused e → ReadingGiven s e
+  read-refused-given e h = by-decoded (decodePacket s) refl h
     where
-      by-decoded : (d : Decoded) → decode s ≡ d → readOf d ≡ reading.Refused e → ReadingGiven s e
+      by-decoded : (d : Decoded) → decodePacket s ≡ d → readOf d ≡ reading.Refused e → ReadingGiven s e
       by-decoded (packet p) f h = never (cc)
       by-decoded (refused x) f h = let z : x ≡ e = cc in refused-given e (f ∙ ap refused z)
 
-  pub read-given-refused : (e : Refusal) → ReadingGiven s e → readOf (decode s) ≡ reading.Refused e
+  pub read-given-refused : (e : Refusal) → ReadingGiven s e → readOf (decodePacket s) ≡ reading.Refused e
   read-given-refused e g = rw (given-refused e g)
 
   -- ---- a packet is accepted exactly if its header is sound and sound blocks fill the room up to RTS
@@ -237,14 +237,14 @@ module _ (s : List ℕ) where
       walks-end q (at + blockOctets n) (next-words at n a) w
       (λ bs e. then (blockHere s at n ∷ bs) (walk-block s at _ (sound-step at q a b) _ _ refl ∙ rw e))
 
-  pub when-accepted : Sound s → Walks s 8 (rtsAt s) → (e : Refusal) → decode s ≡ refused e → ⊥
-  unfolding decode
+  pub when-accepted : Sound s → Walks s 8 (rtsAt s) → (e : Refusal) → decodePacket s ≡ refused e → ⊥
+  unfolding decodePacket
   when-accepted h w e r =
       walks-end (rts-words (be16 s 2) (length s) (h .3)) 8 refl w
       (λ bs f. let z : decoded (walkOf s) s ≡ packet (packetIn s bs) = rw (sound-walk h ∙ f) in
       let y : packet (packetIn s bs) ≡ refused e = sym z ∙ r in never (cc))
 
-  pub accepted-when : (p : Packet) → decode s ≡ packet p → Sound s × Walks s 8 (rtsAt s)
+  pub accepted-when : (p : Packet) → decodePacket s ≡ packet p → Sound s × Walks s 8 (rtsAt s)
   accepted-when p d =
       accepted s p d (λ bs f z.
       let k = walked-sound s bs f in
@@ -270,8 +270,8 @@ module _ (s : List ℕ) where
   nth-past (b ∷ bs) zero l = absurd (omega arith)
   nth-past (b ∷ bs) (suc k) l = nth-past bs k (omega arith)
 
-  walked-read : (bs : List ReportBlock) → walkOf s ≡ walked bs → decode s ≡ packet (packetIn s bs)
-  unfolding decode
+  walked-read : (bs : List ReportBlock) → walkOf s ≡ walked bs → decodePacket s ≡ packet (packetIn s bs)
+  unfolding decodePacket
   walked-read bs f = rw f
 
   pub block-refused-given : (k : ℕ) (e : Refusal) → readBlock s k ≡ answer.Refused e → BlockGiven s k e
@@ -333,10 +333,10 @@ module _ (s : List ℕ) where
 
   -- ---- the rewriter
 
-  pub rewrite-refused-given : (out : List ℕ) (e : Refusal) → rewriteOf (decode s) out .answer ≡ rewriting.Refused e → RewritingGiven s out e
-  rewrite-refused-given out e h = by-decoded (decode s) refl h
+  pub rewrite-refused-given : (out : List ℕ) (e : Refusal) → rewriteOf (decodePacket s) out .answer ≡ rewriting.Refused e → RewritingGiven s out e
+  rewrite-refused-given out e h = by-decoded (decodePacket s) refl h
     where
-      by-decoded : (d : Decoded) → decode s ≡ d → rewriteOf d out .answer ≡ rewriting.Refused e → RewritingGiven s out e
+      by-decoded : (d : Decoded) → decodePacket s ≡ d → rewriteOf d out .answer ≡ rewriting.Refused e → RewritingGiven s out e
       by-decoded (refused x) f h = let z : x ≡ e = cc in given.RewritingGiven.reader (refused-given e (f ∙ ap refused z))
       by-decoded (packet p) f h =
           let z = rw (accepted-octets s p f) at h in
@@ -346,10 +346,10 @@ module _ (s : List ℕ) where
           let x : OutputTooShort ≡ e = cc in
           subst (RewritingGiven s out) x (given.RewritingGiven.tooShort p f l))
 
-  pub rewrite-given-refused : (out : List ℕ) (e : Refusal) → RewritingGiven s out e → rewriteOf (decode s) out ≡ outputAfter (rewriting.Refused e) out
+  pub rewrite-given-refused : (out : List ℕ) (e : Refusal) → RewritingGiven s out e → rewriteOf (decodePacket s) out ≡ outputAfter (rewriting.Refused e) out
   rewrite-given-refused out e (given.RewritingGiven.reader g) = rw (given-refused e g)
   rewrite-given-refused out e (given.RewritingGiven.tooShort p d l) = rw (d, accepted-octets s p d) (simp (lt-ltb (length out) (length s) l))
 
   -- a refused call changes nothing
-  pub rewrite-refused-stays : (out : List ℕ) (e : Refusal) → rewriteOf (decode s) out .answer ≡ rewriting.Refused e → rewriteOf (decode s) out .output ≡ out
+  pub rewrite-refused-stays : (out : List ℕ) (e : Refusal) → rewriteOf (decodePacket s) out .answer ≡ rewriting.Refused e → rewriteOf (decodePacket s) out .output ≡ out
   rewrite-refused-stays out e h = ap (λ (x : OutputAfter Rewriting). x .output) (rewrite-given-refused out e (rewrite-refused-given out e h))

@@ -17,7 +17,7 @@ use Rattle.packet.specs.Packet.{Block, Packet, encodePacket, FitBlock, Fit, rep
 use Rattle.packet.specs.Sizes.{blockOctets, packetOctets}
 use Rattle.packet.proofs.Sizes.{length-packet}
 use Rattle.walk.specs.Walk.{walked, walkOf}
-use Rattle.reader.specs.Reading.{Decoded, packet, refused, decode}
+use Rattle.reader.specs.Reading.{Decoded, packet, refused, decodePacket}
 use Rattle.rewriter.specs.Rewrite.{rewriteMetric, rewriteBlock, rewritePacket, Clean, rewriteOf}
 use Rattle.rewriter.specs.declared.Rewriting.{Rewriting}
 use Rattle.rewriter.proofs.Output.{rewrite-octets}
@@ -121,12 +121,12 @@ metric-rewrite (b ∷ bs) zero j = rw (length-map (b .metrics) rewriteMetric, ge
 metric-rewrite (b ∷ bs) (suc k) j = metric-rewrite bs k j
 
 module _ (s : List ℕ) (octets : Octets s) where
-  module _ (p : Packet) (e : decode s ≡ packet p) where
+  module _ (p : Packet) (e : decodePacket s ≡ packet p) where
     -- the octets that the rewriter writes
     abbrev written : List ℕ
     written = encodePacket (rewritePacket p)
 
-    output-read : decode written ≡ packet (rewritePacket p)
+    output-read : decodePacket written ≡ packet (rewritePacket p)
     output-read = read-back (rewritePacket p) (fit-rewrite p (written-back s octets p e .fit))
 
     output-walk : walkOf written ≡ walkOf s
@@ -154,16 +154,16 @@ module _ (s : List ℕ) (octets : Octets s) where
 
   -- ---- a call that wrote n octets
 
-  module _ (entry exit : List ℕ) (n : ℕ) (call : rewriteOf (decode s) entry ≡ outputAfter (Written n) exit) where
+  module _ (entry exit : List ℕ) (n : ℕ) (call : rewriteOf (decodePacket s) entry ≡ outputAfter (Written n) exit) where
     -- what it wrote
     record Output (p : Packet) : Type 0 where
-      is : decode s ≡ packet p
+      is : decodePacket s ≡ packet p
       size : n ≡ length s
       first : take n exit ≡ encodePacket (rewritePacket p)
       others : drop n exit ≡ drop n entry
       long : length exit ≡ length entry
 
-    output-of : (p : Packet) → decode s ≡ packet p → Output p
+    output-of : (p : Packet) → decodePacket s ≡ packet p → Output p
     output-of p e =
         let z : rewriteOf (packet p) entry ≡ outputAfter (Written n) exit = rw e at call in
         let y = rw (accepted-octets s p e) at z in
@@ -188,9 +188,9 @@ module _ (s : List ℕ) (octets : Octets s) where
         never (cc))
 
     output : {P : Type 0} → ((p : Packet) → Output p → P) → P
-    output {P} then = by-decoded (decode s) refl call
+    output {P} then = by-decoded (decodePacket s) refl call
       where
-        by-decoded : (d : Decoded) → decode s ≡ d → rewriteOf d entry ≡ outputAfter (Written n) exit → P
+        by-decoded : (d : Decoded) → decodePacket s ≡ d → rewriteOf d entry ≡ outputAfter (Written n) exit → P
         by-decoded (packet p) e c = then p (output-of p e)
         by-decoded (refused x) e c = let z : Refused x ≡ Written n = ap (λ (o : OutputAfter Rewriting). o .answer) c in never (cc)
 
@@ -201,14 +201,14 @@ module _ (s : List ℕ) (octets : Octets s) where
         record { size = o .size; same = rw (o .first) (output-same p (o .is)); others = o .others; long = o .long })
 
     -- it equals the input exactly if no not-received metric had other bits set
-    pub rewrite-equal : (p : Packet) → decode s ≡ packet p → Clean p → take n exit ≡ s
+    pub rewrite-equal : (p : Packet) → decodePacket s ≡ packet p → Clean p → take n exit ≡ s
     rewrite-equal p e t = output-of p e .first ∙ output-equal p e t
 
-    pub equal-rewrite : (p : Packet) → decode s ≡ packet p → take n exit ≡ s → Clean p
+    pub equal-rewrite : (p : Packet) → decodePacket s ≡ packet p → take n exit ≡ s → Clean p
     equal-rewrite p e h = equal-output p e (sym (output-of p e .first) ∙ h)
 
     -- doing it twice is doing it once: rewriting what was written writes just that
-    pub twice-once : (again : List ℕ) → n ≤ length again → rewriteOf (decode (take n exit)) again ≡ outputAfter (Written n) (sets again 0 (take n exit))
+    pub twice-once : (again : List ℕ) → n ≤ length again → rewriteOf (decodePacket (take n exit)) again ≡ outputAfter (Written n) (sets again 0 (take n exit))
     twice-once again room =
         output (λ p o.
         let size : packetOctets (reportCounts (rewritePacket p .blocks)) ≡ n = rewrite-octets p ∙ accepted-octets s p (o .is) ∙ sym (o .size) in

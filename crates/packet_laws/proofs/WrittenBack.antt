@@ -12,7 +12,7 @@ use Rattle.packet.specs.Packet.{Packet, encodeBlocks, encodePacket, reportCount
 use Rattle.packet.specs.Sizes.{packetOctets}
 use Rattle.walk.specs.Walk.{rtsAt, Walked, walked, stopped, walkOf}
 use Rattle.walk.specs.declared.ReportBlock.{ReportBlock}
-use Rattle.reader.specs.Reading.{packet, blockIn, packetIn, decoded, decode}
+use Rattle.reader.specs.Reading.{packet, blockIn, packetIn, decoded, decodePacket}
 use Rattle.reader.proofs.Answers.{walked-sound}
 use Rattle.rewriter.proofs.Output.{octets-read}
 use Rattle.packet_laws.specs.WrittenBack.{WrittenAs}
@@ -45,8 +45,8 @@ module _ (s : List ℕ) (octets : Octets s) where
         fit = record { sender = less-32 s octets 4; rts = less-32 s octets (rtsAt s); blocks = b .fit; words = omega (arith, less-16 s octets 2, h .words) };
       }
 
-  pub written-back : (p : Packet) → decode s ≡ packet p → WrittenAs s p
-  unfolding decode
+  pub written-back : (p : Packet) → decodePacket s ≡ packet p → WrittenAs s p
+  unfolding decodePacket
   written-back p e = by-walk (walkOf s) refl e
     where
       by-walk : (w : Walked) → walkOf s ≡ w → decoded w s ≡ packet p → WrittenAs s p

@@ -1,11 +1,12 @@
 -- The reader's answers, from the blocks of a packet alone: where each block stands, and metric j of block k.
 -- The theorems say that the reader answers so.
-use Prim.Native.Nat.{ℕ, zero, suc, _+_, _%_, _^_}
+use Prim.Native.Nat.{ℕ, zero, suc, _+_, _%_}
 use mathlib.Core.Bool.{cond}
 use mathlib.Core.List.{List, [], _∷_}
 use lib.ListN.{length, getD}
 use lib.Dec.{leb}
 use Rattle.metric.specs.Metric.{decodeOf}
+use Rattle.window.specs.Number.{sequenceNumbers}
 use Rattle.packet.specs.Packet.{Block}
 use Rattle.packet.specs.Sizes.{blockHeaderOctets, blockOctets}
 use Rattle.walk.specs.declared.ReportBlock.{ReportBlock}
@@ -39,7 +40,7 @@ metricsOf (b ∷ bs) (suc k) = metricsOf bs k
 abbrev pub blockMetric : Block → ℕ → MetricAnswer
 blockMetric b j =
     cond (leb (length (b .metrics)) j) (Refused NoNumber)
-    (Reported ((b .begin + j) % 2 ^ 16) (decodeOf (getD (b .metrics) j 0)))
+    (Reported ((b .begin + j) % sequenceNumbers) (decodeOf (getD (b .metrics) j 0)))
 
 -- metric j of block k
 abbrev pub packetMetric : List Block → ℕ → ℕ → MetricAnswer

@@ -9,7 +9,7 @@ use Rattle.octets.specs.Octets.{be16}
 use Rattle.packet.specs.Packet.{Packet, version, format, packetType}
 use Rattle.packet.specs.Sizes.{mostReports, packetHeaderOctets, blockHeaderOctets, packetFrame, blockOctets}
 use Rattle.walk.specs.Walk.{versionOf, paddingOf, formatOf, typeOf, lengthOf, rtsAt}
-use Rattle.reader.specs.Reading.{packet, decode}
+use Rattle.reader.specs.Reading.{packet, decodePacket}
 use Rattle.packet_laws.specs.Asked.{metricsOf}
 use Rattle.refusal.specs.declared.Refusal.the-variants.{OutputTooShort, PacketTooShort, BadVersion, BadType, BadLength, Padded, RunsIntoRts, TooManyReports, FillerNotZero, NoBlock, NoNumber}
 
@@ -82,15 +82,15 @@ pub data ReadingGiven (s : List ℕ) : Refusal → Type 0 where
 -- block k: the reader's, then 29
 pub data BlockGiven (s : List ℕ) (k : ℕ) : Refusal → Type 0 where
   reader : {e : Refusal} → ReadingGiven s e → BlockGiven s k e
-  noBlock : (p : Packet) → decode s ≡ packet p → length (p .blocks) ≤ k → BlockGiven s k NoBlock
+  noBlock : (p : Packet) → decodePacket s ≡ packet p → length (p .blocks) ≤ k → BlockGiven s k NoBlock
 
 -- metric j of block k: block k's, then 30
 pub data MetricGiven (s : List ℕ) (k j : ℕ) : Refusal → Type 0 where
   block : {e : Refusal} → BlockGiven s k e → MetricGiven s k j e
-  noNumber : (p : Packet) → decode s ≡ packet p → k < length (p .blocks) → length (metricsOf (p .blocks) k) ≤ j
+  noNumber : (p : Packet) → decodePacket s ≡ packet p → k < length (p .blocks) → length (metricsOf (p .blocks) k) ≤ j
       → MetricGiven s k j NoNumber
 
 -- the rewriter: the reader's, then 10
 pub data RewritingGiven (s out : List ℕ) : Refusal → Type 0 where
   reader : {e : Refusal} → ReadingGiven s e → RewritingGiven s out e
-  tooShort : (p : Packet) → decode s ≡ packet p → length out < length s → RewritingGiven s out OutputTooShort
+  tooShort : (p : Packet) → decodePacket s ≡ packet p → length out < length s → RewritingGiven s out OutputTooShort

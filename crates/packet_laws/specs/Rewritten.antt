@@ -3,13 +3,13 @@ use Prim.Native.Nat.{ℕ}
 use mathlib.Core.Path.{_≡_}
 use mathlib.Core.List.{List}
 use lib.ListN.{length, take, drop}
-use Rattle.reader.specs.Reading.{decode, readOf}
+use Rattle.reader.specs.Reading.{decodePacket, readOf}
 use Rattle.block_reader.specs.Blocks.{readBlock, readMetric}
 
 -- reading the octets t gives the answers that reading s gives: sender, RTS and number of blocks; each block;
 -- each metric's number and case
 pub record SameAnswers (s t : List ℕ) : Type 0 where
-  pub read : readOf (decode t) ≡ readOf (decode s)
+  pub read : readOf (decodePacket t) ≡ readOf (decodePacket s)
   pub block : (k : ℕ) → readBlock t k ≡ readBlock s k
   pub metric : (k j : ℕ) → readMetric t k j ≡ readMetric s k j
 

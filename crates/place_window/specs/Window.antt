@@ -9,7 +9,7 @@ use Rattle.refusal.specs.declared.Refusal.{Refusal}
 use Rattle.window.specs.Number.{moveOf}
 use Rattle.window.specs.Ring.{cellsOfAPlace, slot, emptied}
 use Rattle.window.specs.declared.Move.{Move}
-use Rattle.places.specs.Place.{placeWord, highestAt, findOf, freeOf}
+use Rattle.places.specs.Place.{placeWord, highestAt, freeOf}
 use Rattle.places.specs.After.{StoreAfter, storeAfter}
 use Rattle.lists.specs.declared.Found.the-variants.{At, Nothing}
 use Rattle.refusal.specs.declared.Refusal.the-variants.{NoFreePlace, TooOld}
@@ -59,6 +59,3 @@ module _ {A : Type 0} (accepted : A) (refused : Refusal → A) (f : ℕ → ℕ)
   abbrev pub admittedAt : Found → List ℕ → List ℕ → ℕ → ℕ → StoreAfter A
   admittedAt (At p) places cells ssrc number = continued places cells p ssrc number
   admittedAt Nothing places cells ssrc number = startedAt (freeOf places) places cells ssrc number
-
-  abbrev pub admitted : List ℕ → List ℕ → ℕ → ℕ → StoreAfter A
-  admitted places cells ssrc number = admittedAt (findOf places ssrc) places cells ssrc number

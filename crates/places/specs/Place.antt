@@ -16,15 +16,22 @@ use Rattle.places.specs.declared.Holding.the-variants.{Free, Held}
 abbrev pub held : ℕ
 held = 2 ^ 48
 
+-- the SSRC stands above the 16 bits of the highest number, and has 32 bits
+abbrev pub ssrcUnit : ℕ
+ssrcUnit = 2 ^ 16
+
+abbrev pub ssrcs : ℕ
+ssrcs = 2 ^ 32
+
 -- the word of a held place
 abbrev pub placeWord : ℕ → ℕ → ℕ
-placeWord ssrc highest = held + 2 ^ 16 * ssrc + highest
+placeWord ssrc highest = held + ssrcUnit * ssrc + highest
 
 abbrev pub ssrcOf : ℕ → ℕ
-ssrcOf word = word / 2 ^ 16 % 2 ^ 32
+ssrcOf word = word / ssrcUnit % ssrcs
 
 abbrev pub highestOf : ℕ → ℕ
-highestOf word = word % 2 ^ 16
+highestOf word = word % ssrcUnit
 
 unfoldable pub readPlace : ℕ → Holding
 readPlace word = cond (eqb (word / held) 1) (Held (ssrcOf word) (highestOf word)) Free

@@ -15,7 +15,7 @@ use Rattle.walk.specs.declared.Start.{Start}
 use Rattle.walk.specs.declared.Step.{Step}
 use Rattle.walk.proofs.Starts.{SoundHeader, sound-header}
 use Rattle.walk.proofs.Walks.{walk-block, walk-end, walk-refused}
-use Rattle.reader.specs.Reading.{refused, decoded, decode, readOf, metricsAt}
+use Rattle.reader.specs.Reading.{refused, decoded, decodePacket, readOf, metricsAt}
 use Rattle.reader.specs.Steps.{counted}
 use Rattle.reader.specs.declared.Count.{Count}
 use Rattle.walk.specs.declared.Start.the-variants as start
@@ -67,8 +67,8 @@ module _ (s : List ℕ) where
   -- ---- the reader's first answer
 
   module _ (k : Count) (is : k ≡ counted 0 (walkOf s)) where
-    pub read-stopped : (e : Refusal) → k ≡ Stopped e → decode s ≡ refused e
-    unfolding decode
+    pub read-stopped : (e : Refusal) → k ≡ Stopped e → decodePacket s ≡ refused e
+    unfolding decodePacket
     read-stopped e f = by-walk (walkOf s) (sym is ∙ f)
       where
         by-walk : (w : Walked) → counted 0 w ≡ Stopped e → decoded w s ≡ refused e
@@ -86,6 +86,6 @@ module _ (s : List ℕ) where
     pub read-header : (n : ℕ) → k ≡ Blocks n → SoundHeader s
     read-header n f = blocks-walked n f (λ bs l e. walked-sound bs e .0)
 
-    pub read-blocks : (n : ℕ) → k ≡ Blocks n → reading.Accepted (be32 s 4) (be32 s (rtsAt s)) n ≡ readOf (decode s)
-    unfolding decode
+    pub read-blocks : (n : ℕ) → k ≡ Blocks n → reading.Accepted (be32 s 4) (be32 s (rtsAt s)) n ≡ readOf (decodePacket s)
+    unfolding decodePacket
     read-blocks n f = blocks-walked n f (λ bs l e. rw (e, l, length-map))

@@ -35,8 +35,8 @@ decoded (walked bs) s = packet (packetIn s bs)
 decoded (stopped e) s = refused e
 
 -- the packet of any octets, or the first refusal
-unfoldable pub decode : List ℕ → Decoded
-decode s = decoded (walkOf s) s
+unfoldable pub decodePacket : List ℕ → Decoded
+decodePacket s = decoded (walkOf s) s
 
 -- ---- sender, RTS and number of blocks
 

@@ -1,7 +1,7 @@
 // The reader: what a CCFB packet says as a whole. It accepts any octets, and answers or gives the first refusal.
 ghost use mathlib.Core.Path.{_≡_};
 ghost use Rattle.walk.specs.Walk.{walkFrom, walkOf};
-ghost use Rattle.reader.specs.Reading.{decode, readOf};
+ghost use Rattle.reader.specs.Reading.{decodePacket, readOf};
 ghost use Rattle.reader.specs.Steps.{counted};
 use packet::RTS_OCTETS;
 use packet::SENDER_AT;
@@ -27,7 +27,7 @@ pub enum Reading {
 }
 
 // How many blocks the walk that starts at a cursor finds. Only our own crates call it.
-pub fn count_from(packet: &[u8], from: Cursor) -> Count
+pub fn count_blocks_from(packet: &[u8], from: Cursor) -> Count
     ensures value { λ r. ⌜ r ≡ counted 0 (walkFrom (now (packet .entry)) (from .at)) ⌝ }
 {
     let mut cursor = from;
@@ -51,14 +51,14 @@ pub fn count_blocks(packet: &[u8]) -> Count
 {
     let first = Cursor::start(packet);
     match first {
-        Start::At(cursor) => count_from(packet, cursor),
+        Start::At(cursor) => count_blocks_from(packet, cursor),
         Start::Refused(e) => Count::Stopped(e),
     }
 }
 
 // The sender, RTS and the number of blocks of a packet.
 pub fn read(packet: &[u8]) -> Reading
-    ensures value { λ r. ⌜ r ≡ readOf (decode (now (packet .entry))) ⌝ }
+    ensures value { λ r. ⌜ r ≡ readOf (decodePacket (now (packet .entry))) ⌝ }
 {
     let count = count_blocks(packet);
     match count {

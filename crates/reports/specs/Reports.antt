@@ -1,11 +1,12 @@
 -- What the octets of a block's metrics say: the part that holds them, and each metric by its number and case.
-use Prim.Native.Nat.{ℕ, _+_, _*_, _/_, _%_, _^_, _≤_}
+use Prim.Native.Nat.{ℕ, _+_, _*_, _/_, _%_, _≤_}
 use mathlib.Core.Bool.{cond}
 use mathlib.Core.List.{List, []}
 use lib.ListN.{length, take, drop}
 use lib.Dec.{leb}
 use Rattle.octets.specs.Octets.{be16}
 use Rattle.metric.specs.Metric.{decodeOf}
+use Rattle.window.specs.Number.{sequenceNumbers}
 use Rattle.walk.specs.declared.ReportBlock.{ReportBlock}
 use Rattle.reports.specs.declared.PartAnswer.{PartAnswer}
 use Rattle.reports.specs.declared.MetricAnswer.{MetricAnswer}
@@ -28,7 +29,7 @@ pub record Within (s : List ℕ) (b : ReportBlock) : Type 0 where
 abbrev pub reportedIn : ReportBlock → List ℕ → ℕ → MetricAnswer
 reportedIn b s j =
     cond (leb (b .«num_reports») j) (reported.Refused NoNumber)
-    (reported.Reported ((b .«begin_seq» + j) % 2 ^ 16) (decodeOf (be16 s (b .«metrics_at» + 2 * j))))
+    (reported.Reported ((b .«begin_seq» + j) % sequenceNumbers) (decodeOf (be16 s (b .«metrics_at» + 2 * j))))
 
 -- metric j, from 0, of a part that holds metrics
 abbrev pub caseAt : List ℕ → ℕ → PartAnswer

@@ -22,7 +22,7 @@ use Rattle.walk.specs.declared.Cursor.{Cursor}
 use Rattle.walk.specs.declared.Step.{Step}
 use Rattle.walk.proofs.Steps.{step-end, found, next-at, next-more, next-room}
 use Rattle.walk.proofs.Walks.{walk-ind}
-use Rattle.reader.specs.Reading.{metricsAt, blockIn, packetIn, decode}
+use Rattle.reader.specs.Reading.{metricsAt, blockIn, packetIn, decodePacket}
 use Rattle.reader.specs.Steps.{counted}
 use Rattle.reader.specs.declared.Count.{Count}
 use Rattle.reader.proofs.Answers.{length-metricsAt, walked-sound, read-stopped, blocks-walked}
@@ -191,20 +191,20 @@ module _ (s : List ℕ) where
       omega (arith, h .0 .long, blocks-fill 8 bs (h .1) (omega (arith, h .0 .long)))
 
   module _ (out : List ℕ) (k : Count) (is : k ≡ counted 0 (walkOf s)) where
-    pub rewrite-stopped : (e : Refusal) → k ≡ Stopped e → outputAfter (Refused e) out ≡ rewriteOf (decode s) out
+    pub rewrite-stopped : (e : Refusal) → k ≡ Stopped e → outputAfter (Refused e) out ≡ rewriteOf (decodePacket s) out
     rewrite-stopped e f = rw (read-stopped s k is e f)
 
     module _ (n : ℕ) (sound : k ≡ Blocks n) where
-      pub rewrite-short : length out < length s → outputAfter (Refused OutputTooShort) out ≡ rewriteOf (decode s) out
-      unfolding decode
+      pub rewrite-short : length out < length s → outputAfter (Refused OutputTooShort) out ≡ rewriteOf (decodePacket s) out
+      unfolding decodePacket
       rewrite-short h = blocks-walked s k is n sound (λ bs l e. rw (e, octets-read bs e) (simp (lt-ltb (length out) (length s) h)))
 
       pub rewrite-written : (o₁ o₂ o₃ : List ℕ) → length s ≤ length out
           → o₁ ≡ sets out 0 (packetHeader (length s) (be32 s 4))
           → o₂ ≡ sets o₁ 8 (rewrittenRest 8)
           → o₃ ≡ sets o₂ (rtsAt s) (octets32 (be32 s (rtsAt s)))
-          → outputAfter (Written (length s)) o₃ ≡ rewriteOf (decode s) out
-      unfolding decode encodePacket
+          → outputAfter (Written (length s)) o₃ ≡ rewriteOf (decodePacket s) out
+      unfolding decodePacket encodePacket
       rewrite-written o₁ o₂ o₃ room e₁ e₂ e₃ =
           blocks-walked s k is n sound (λ bs l e.
           let h = walked-sound s bs e in

@@ -8,7 +8,7 @@ ghost use Rattle.octets.specs.Octets.{octetValues};
 ghost use Rattle.octets.specs.Output.{outputAfter};
 ghost use Rattle.packet.specs.Sizes.{blockHeaderOctets, blockOctets};
 ghost use Rattle.packet.specs.Packet.{encodeMetrics, encodeBlock};
-ghost use Rattle.reader.specs.Reading.{metricsAt, blockIn, decode};
+ghost use Rattle.reader.specs.Reading.{metricsAt, blockIn, decodePacket};
 ghost use Rattle.rewriter.specs.Rewrite.{rewriteMetric, rewriteBlock, rewriteOf};
 ghost use Rattle.rewriter.specs.Steps.{lowFirst, rewriteLowFirst, rewrittenFrom};
 use octets::OCTET_VALUES;
@@ -122,7 +122,7 @@ fn rewrite_blocks(packet: &[u8], out: &mut [u8], from: Cursor)
 
 // Writes the packet to the start of the output with each not-received metric set to 0x0000.
 pub fn rewrite(packet: &[u8], out: &mut [u8]) -> Rewriting
-    ensures after { λ r. ⌜ outputAfter r (now (out .exit)) ≡ rewriteOf (decode (now (packet .entry))) (now (out .entry)) ⌝ }
+    ensures after { λ r. ⌜ outputAfter r (now (out .exit)) ≡ rewriteOf (decodePacket (now (packet .entry))) (now (out .entry)) ⌝ }
 {
     let size = packet.len();
     let count = reader::count_blocks(packet);

@@ -23,7 +23,7 @@ use Rattle.packet.proofs.Sizes.{length-packet}
 use Rattle.walk.specs.Walk.{Walked}
 use Rattle.walk.specs.declared.ReportBlock.{ReportBlock}
 use Rattle.reports.specs.declared.MetricAnswer.{MetricAnswer}
-use Rattle.reader.specs.Reading.{Decoded, decode}
+use Rattle.reader.specs.Reading.{Decoded, decodePacket}
 use Rattle.block_reader.specs.Blocks.{nth, located}
 use Rattle.packet_laws.specs.Asked.{laidBlock, laid, blockMetric, packetMetric}
 use Rattle.packet_laws.proofs.Asked.{metric-asked}
@@ -85,7 +85,7 @@ pub packets-in : (ps : List packet.Packet) → packetsIn (encodePackets ps) ≡ 
 packets-in ps = walk-packets ps (length (encodePackets ps)) (few-packets ps)
 
 -- each is accepted by the reader
-pub all-accepted : (ps : List packet.Packet) → All packet.Fit ps → map decode (map packet.encodePacket ps) ≡ map Decoded.packet ps
+pub all-accepted : (ps : List packet.Packet) → All packet.Fit ps → map decodePacket (map packet.encodePacket ps) ≡ map Decoded.packet ps
 all-accepted [] f = refl
 all-accepted (p ∷ ps) f = ap₂ (λ (d : Decoded) (ds : List Decoded). d ∷ ds) (read-back p (f .0)) (all-accepted ps (f .1))
 

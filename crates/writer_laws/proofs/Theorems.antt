@@ -9,7 +9,7 @@ use lib.Seq.{sets, sets-eq, take-at, drop-at}
 use Rattle.lists.specs.All.{All}
 use Rattle.lists.proofs.All.{all-map, all-zip, all-over}
 use Rattle.octets.specs.Output.{OutputAfter}
-use Rattle.reader.specs.Reading.{decode}
+use Rattle.reader.specs.Reading.{decodePacket}
 use Rattle.cutting.specs.Plan.{plan, totalOctets}
 use Rattle.cutting.specs.declared.Request.{Request}
 use Rattle.cutting.proofs.Theorems.{plan-cuts, plan-fewest}
@@ -95,7 +95,7 @@ module _ (places cells : List ℕ) (sender rts limit n : ℕ) (rs : List Request
           room = room;
           past = ap (drop o) content ∙ behind (encodePackets packets) out o size room;
           count = ap length found ∙ length-map packets packet.encodePacket ∙ length-map (plan limit rs) _ ∙ sym (is .1);
-          accepts = ap (map decode) found ∙ all-accepted packets fit;
+          accepts = ap (map decodePacket) found ∙ all-accepted packets fit;
           cuts = rw (found, r) k;
           cut-count = rw (found, r) (sym (is .1));
           fewest = λ c h. omega (arith, is .1, plan-fewest limit rs c h);

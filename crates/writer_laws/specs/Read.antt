@@ -17,7 +17,7 @@ use Rattle.place_window.specs.Window.{cellAt}
 use Rattle.cells.specs.Cell.{readCell}
 use Rattle.walk.specs.Walk.{Walked, walked, stopped, walkOf}
 use Rattle.walk.specs.declared.ReportBlock.{ReportBlock}
-use Rattle.reader.specs.Reading.{Decoded, decode}
+use Rattle.reader.specs.Reading.{Decoded, decodePacket}
 use Rattle.block_reader.specs.Blocks.{located, reportedOf}
 use Rattle.cutting.specs.Cutting.{CutBlock, CutPacket, Cutting, Cuts}
 use Rattle.cutting.specs.declared.Request.{Request}
@@ -98,7 +98,7 @@ pub record Report (places cells : List ℕ) (sender rts limit : ℕ) (rs : List 
   -- walking the length fields of what is written finds p packets
   pub count : length (packetsIn (take o exit)) ≡ p
   -- the reader accepts each, as the plan's packet with the metrics of the store
-  pub accepts : map decode (packetsIn (take o exit)) ≡ map Decoded.packet (packetsFor places cells sender rts limit rs)
+  pub accepts : map decodePacket (packetsIn (take o exit)) ≡ map Decoded.packet (packetsFor places cells sender rts limit rs)
   -- their blocks are a cutting of the requests, with just p packets
   pub cuts : Cuts limit rs (cuttingRead rs (packetsIn (take o exit)))
   pub cut-count : length (cuttingRead rs (packetsIn (take o exit))) ≡ p

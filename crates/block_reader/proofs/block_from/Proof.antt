@@ -8,14 +8,14 @@ returns : tie.Need-returns
 returns c =
     let after-here = c .before .before .before .before in
     let after-blocks = after-here .before .before .after-blocks in
-    block-found _ _ _ _ (after-blocks .ensures) _ _ (after-here .here .given .1) _ _ (c .before .before .count-from .ensures) (c .enum-told .given .1)
+    block-found _ _ _ _ (after-blocks .ensures) _ _ (after-here .here .given .1) _ _ (c .before .before .count-blocks-from .ensures) (c .enum-told .given .1)
 
 returns-2 : tie.Need-returns-2
 returns-2 c =
     let after-count-from = c .before .before .before in
     let here = after-count-from .before .before .here in
     let after-blocks = after-count-from .before .before .before .before .after-blocks in
-    block-stopped _ _ _ _ (after-blocks .ensures) _ _ (here .given .1) _ _ (after-count-from .count-from .ensures) (c .before .rest .given .1)
+    block-stopped _ _ _ _ (after-blocks .ensures) _ _ (here .given .1) _ _ (after-count-from .count-blocks-from .ensures) (c .before .rest .given .1)
 
 returns-3 : tie.Need-returns-3
 returns-3 c = block-none _ _ _ _ (c .before .before .after-blocks .ensures) (c .enum-told2 .given .1)

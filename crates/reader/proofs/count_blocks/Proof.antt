@@ -9,7 +9,7 @@ use Rattle.reader.proofs.count_blocks.Tie as tie
 returns : tie.Need-returns
 returns c =
     let start = c .before .before .before .before .start in
-    c .count-from .ensures ∙ ap (counted 0) (sym (start-at _ _ _ (start .ensures) (c .before .before .first .given .1)))
+    c .count-blocks-from .ensures ∙ ap (counted 0) (sym (start-at _ _ _ (start .ensures) (c .before .before .first .given .1)))
 
 returns-2 : tie.Need-returns-2
 returns-2 c =

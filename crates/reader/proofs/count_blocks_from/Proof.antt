@@ -1,4 +1,4 @@
--- `reader::count_from` meets its contract. The invariant: the blocks passed and the walk from here count as
+-- `reader::count_blocks_from` meets its contract. The invariant: the blocks passed and the walk from here count as
 -- the whole walk. Assumes nothing.
 use Prim.Native.Nat.{_-_, _*_, _≤_}
 use mathlib.Core.Path.{_≡_, refl, sym, _∙_}
@@ -9,8 +9,8 @@ use Rattle.walk.proofs.Steps.{inside, next-more}
 use Rattle.reader.specs.Steps.{counted}
 use Rattle.reader.proofs.Answers.{count-block, count-end, count-refused}
 use borrow.Author.Needs.{needs}
-use Rattle.reader.proofs.count_from.Statement.{statement}
-use Rattle.reader.proofs.count_from.Tie as tie
+use Rattle.reader.proofs.count_blocks_from.Statement.{statement}
+use Rattle.reader.proofs.count_blocks_from.Tie as tie
 
 abbrev Inv-loop : tie.InvT-loop
 Inv-loop packet cursor₀ n₀ cursor n =
@@ -51,8 +51,8 @@ returns-2 c =
     let loop = c .before .before .before .before .loop in
     count-refused _ _ _ _ (next .ensures) _ (c .before .here2 .given .1) ∙ loop .inv .1
 
-pub count-from-spec : {M : Type 1} → statement M
-count-from-spec =
+pub count-blocks-from-spec : {M : Type 1} → statement M
+count-blocks-from-spec =
     tie.close
     (tie.spec
     Inv-loop
