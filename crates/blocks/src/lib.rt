@@ -54,7 +54,7 @@ fn put_metrics(out: &mut [u8], at: usize, cells: &[u64], rts: u32, p: usize, beg
     let mut number = begin;
     let mut left = count;
     while 0 < left {
-        octets::put16(out, i, store::cell_metric(cells, rts, p, number));
+        octets_put::put16(out, i, store::cell_metric(cells, rts, p, number));
         i += 2;
         number = cutting::number_after(number, 1);
         left -= 1;
@@ -79,9 +79,9 @@ fn put_block(
         ≡ sets (now (out .entry)) at
         (encodeBlock (record { ssrc = ssrc; begin = begin; metrics = map (cellMetric (now (cells .entry)) rts p) (numbersFrom begin count) })) ⌝ }
 {
-    packet::put_block_header(out, at, ssrc, begin, count);
+    packet_fields::put_block_header(out, at, ssrc, begin, count);
     put_metrics(out, at + BLOCK_HEADER_OCTETS, cells, rts, p, begin, count);
-    packet::put_filler(out, at + BLOCK_HEADER_OCTETS + 2 * (count as usize), count);
+    packet_fields::put_filler(out, at + BLOCK_HEADER_OCTETS + 2 * (count as usize), count);
 }
 
 // Writes the blocks of the packet that starts at a position, behind the packet's header.

@@ -24,7 +24,7 @@ pub extern "C" fn ccfb_encode_metric(
     if CONGESTED < mark {
         return refusal::number(Refusal::BadMark);
     }
-    *metric = metric::encode(
+    *metric = metric_encode::encode(
         Cell::Filled {
             mark: mark,
             time: metric::time_of(time_known, time),

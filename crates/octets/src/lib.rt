@@ -1,14 +1,13 @@
-// Big-endian numbers of 16 and 32 bits in a slice of octets.
+// Reads big-endian numbers of 16 and 32 bits in a slice of octets.
 ghost use mathlib.Core.Path.{_≡_};
 ghost use Prim.Native.Nat.{_+_, _*_, _≤_};
 ghost use lib.ListN.{length};
-ghost use lib.Seq.{sets};
-ghost use Rattle.octets.specs.Octets.{octetValues, halfValues, be16, be32, octets16, octets32};
+ghost use Rattle.octets.specs.Octets.{octetValues, halfValues, be16, be32};
 
 // How many values an octet has, and how many a half of a 32-bit number.
 pub const OCTET_VALUES: u16 = 0x100;
 
-const HALF_VALUES: u32 = 0x1_0000;
+pub const HALF_VALUES: u32 = 0x1_0000;
 
 // The number of two octets.
 fn joined16(high: u8, low: u8) -> u16
@@ -38,22 +37,4 @@ pub fn get32(s: &[u8], at: usize) -> u32
     ensures value { λ r. ⌜ r ≡ be32 (now (s .entry)) at ⌝ }
 {
     joined32(get16(s, at), get16(s, at + 2))
-}
-
-// Writes a 16-bit number at an offset.
-pub fn put16(out: &mut [u8], at: usize, v: u16)
-    requires room { ⌜ at + 2 ≤ length (now out) ⌝ }
-    ensures content { λ _. ⌜ now (out .exit) ≡ sets (now (out .entry)) at (octets16 v) ⌝ }
-{
-    out[at] = (v / OCTET_VALUES) as u8;
-    out[at + 1] = (v % OCTET_VALUES) as u8;
-}
-
-// Writes a 32-bit number at an offset.
-pub fn put32(out: &mut [u8], at: usize, v: u32)
-    requires room { ⌜ at + 4 ≤ length (now out) ⌝ }
-    ensures content { λ _. ⌜ now (out .exit) ≡ sets (now (out .entry)) at (octets32 v) ⌝ }
-{
-    put16(out, at, (v / HALF_VALUES) as u16);
-    put16(out, at + 2, (v % HALF_VALUES) as u16);
 }

@@ -37,8 +37,8 @@ fn write_packet(
     let b = blocks::put_blocks(out, limit, cells, rts, requests, found, n, from);
     let end = b.octets;
     let rest = b.rest;
-    octets::put32(out, end, rts);
-    packet::put_header(out, end + RTS_OCTETS, sender);
+    octets_put::put32(out, end, rts);
+    packet_fields::put_header(out, end + RTS_OCTETS, sender);
     Progress {
         rest: rest,
         octets: end + RTS_OCTETS,

@@ -93,9 +93,9 @@ fn rewrite_block(packet: &[u8], out: &mut [u8], at: usize, b: ReportBlock)
 {
     let from = at + BLOCK_HEADER_OCTETS;
     let n = b.num_reports as usize;
-    packet::put_block_header(out, at, b.ssrc, b.begin_seq, b.num_reports);
+    packet_fields::put_block_header(out, at, b.ssrc, b.begin_seq, b.num_reports);
     rewrite_metrics(packet, out, from, n);
-    packet::put_filler(out, from + 2 * n, b.num_reports);
+    packet_fields::put_filler(out, from + 2 * n, b.num_reports);
 }
 
 // Writes the blocks of the packet, rewritten, starting at a cursor.
@@ -133,7 +133,7 @@ pub fn rewrite(packet: &[u8], out: &mut [u8]) -> Rewriting
         return Rewriting::Refused(Refusal::OutputTooShort);
     }
     let rts = size - RTS_OCTETS;
-    packet::put_header(out, size, octets::get32(packet, SENDER_AT));
+    packet_fields::put_header(out, size, octets::get32(packet, SENDER_AT));
     rewrite_blocks(
         packet,
         out,
@@ -141,6 +141,6 @@ pub fn rewrite(packet: &[u8], out: &mut [u8]) -> Rewriting
             at: PACKET_HEADER_OCTETS,
         },
     );
-    octets::put32(out, rts, octets::get32(packet, rts));
+    octets_put::put32(out, rts, octets::get32(packet, rts));
     Rewriting::Written(size)
 }

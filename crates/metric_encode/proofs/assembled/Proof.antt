@@ -1,0 +1,10 @@
+-- `metric_encode::assembled` meets its contract. Assumes nothing.
+use borrow.Author.Needs.{needs}
+use Rattle.metric_encode.proofs.assembled.Statement.{statement}
+use Rattle.metric_encode.proofs.assembled.Tie as tie
+
+returns : tie.Need-returns
+returns c = search needs
+
+pub assembled-spec : {M : Type 1} → statement M
+assembled-spec = tie.close (tie.spec (λ c. search needs) (λ c. search needs) (λ c. search needs) (λ c. search needs) returns)
