@@ -12,9 +12,9 @@ use Rattle.places.specs.Shape.{shaped}
 use Rattle.place_window.specs.Window.{admittedAt}
 use Rattle.places.specs.After.{StoreAfter, storeAfter}
 use Rattle.cells.specs.Cell.{wordAfter}
-use Rattle.arrivals.specs.declared.Arrival.{Arrival}
+use Rattle.later_arrivals.specs.declared.Arrival.{Arrival}
 use Rattle.refusal.specs.declared.Refusal.the-variants.{BadMark, BadStore}
-use Rattle.arrivals.specs.declared.Arrival.the-variants as arrival
+use Rattle.later_arrivals.specs.declared.Arrival.the-variants as arrival
 
 -- a refused arrival leaves the store as it was
 abbrev pub arrivalRefused : Refusal → List ℕ → List ℕ → StoreAfter Arrival

@@ -1,63 +1,13 @@
-// An arrival: where its stream's place is, how its number moves the window, and what its cell then holds.
+// An arrival: of a stream that a place holds, or the first of a new one.
 ghost use mathlib.Core.Path.{_≡_};
-ghost use Prim.Native.Nat.{_+_, _*_, _≤_};
-ghost use lib.ListN.{length};
-ghost use Rattle.window.specs.Ring.{cellsOfAPlace};
-ghost use Rattle.places.specs.Shape.{Ready};
 ghost use Rattle.places.specs.After.{storeAfter};
-ghost use Rattle.place_window.specs.Window.{updated, continued};
-ghost use Rattle.cells.specs.Cell.{wordAfter};
 ghost use Rattle.arrivals.specs.Arrivals.{arrived};
+use later_arrivals::Arrival;
 use lists::Found;
 use metric::CONGESTED;
 use metric::Time;
 use refusal::Refusal;
 use window::CELLS_OF_A_PLACE;
-use window::Move;
-
-pub enum Arrival {
-    Accepted,
-    Refused(Refusal),
-}
-
-// Enters an arrival of a number of the window at its cell.
-fn enter(cells: &mut [u64], p: usize, number: u16, mark: u8, time: Time)
-    requires room { ⌜ cellsOfAPlace * p + cellsOfAPlace ≤ length (now cells) ⌝ }
-    ensures content { λ _. ⌜ now (cells .exit) ≡ updated (wordAfter mark time) (now (cells .entry)) p number ⌝ }
-{
-    let at = place_window::cell_index(p, number);
-    cells[at] = cells::word_after(cells[at], mark, time);
-}
-
-// A later arrival of the stream that the place p holds.
-fn resume(
-    places: &mut [u64],
-    cells: &mut [u64],
-    p: usize,
-    ssrc: u32,
-    number: u16,
-    mark: u8,
-    time: Time,
-) -> Arrival
-    requires ready { ⌜ Ready (now places) (now cells) p ⌝ }
-    ensures after { λ r. ⌜
-        storeAfter r (now (places .exit)) (now (cells .exit))
-        ≡ continued Arrival.Accepted Arrival.Refused (wordAfter mark time) (now (places .entry)) (now (cells .entry)) p ssrc number ⌝ }
-{
-    let step = window::move_of(places::highest_at(places, p), number);
-    match step {
-        Move::Ahead(f) => {
-            let word = cells::filled_word(mark, time);
-            place_window::open_window(places, cells, p, ssrc, number, window::newly(f), word);
-            Arrival::Accepted
-        }
-        Move::Within(_) => {
-            enter(cells, p, number, mark, time);
-            Arrival::Accepted
-        }
-        Move::TooOld => Arrival::Refused(Refusal::TooOld),
-    }
-}
 
 // One arrival: refusals 4, 1, then 3 or 2.
 pub fn arrive(
@@ -81,7 +31,7 @@ pub fn arrive(
     }
     let known = places::find(places, ssrc);
     if let Found::At(p) = known {
-        return resume(places, cells, p, ssrc, number, mark, time);
+        return later_arrivals::resume(places, cells, p, ssrc, number, mark, time);
     }
     let open = places::first_free(places);
     if let Found::At(p) = open {

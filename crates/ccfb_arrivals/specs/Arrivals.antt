@@ -3,8 +3,8 @@
 use Prim.Native.Nat.{ℕ}
 use Rattle.refusal.specs.Numbers.{numberOf}
 use Rattle.places.specs.After.{StoreAfter, storeAfter}
-use Rattle.arrivals.specs.declared.Arrival.{Arrival}
-use Rattle.arrivals.specs.declared.Arrival.the-variants as arrival
+use Rattle.later_arrivals.specs.declared.Arrival.{Arrival}
+use Rattle.later_arrivals.specs.declared.Arrival.the-variants as arrival
 
 -- 0, or the number of the refusal
 abbrev pub arrivalRefusal : Arrival → ℕ

@@ -4,7 +4,7 @@ ghost use Rattle.metric.specs.Metric.{timeOf};
 ghost use Rattle.places.specs.After.{storeAfter};
 ghost use Rattle.arrivals.specs.Arrivals.{arrived};
 ghost use Rattle.ccfb_arrivals.specs.Arrivals.{arrivalRefusal, arriveCalled};
-use arrivals::Arrival;
+use later_arrivals::Arrival;
 
 // 0 for an accepted arrival, else the number of the refusal.
 fn arrival_refusal(answer: Arrival) -> u8

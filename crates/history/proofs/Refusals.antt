@@ -27,14 +27,14 @@ use Rattle.arrivals.specs.Arrivals.{arrivedAt, arrived}
 use Rattle.store.specs.Store.{forgottenAt, forgotten, answerOf, placeOf}
 use Rattle.store.specs.declared.PlaceAnswer.{PlaceAnswer}
 use Rattle.store.specs.declared.Forgetting.{Forgetting}
-use Rattle.arrivals.specs.declared.Arrival.{Arrival}
+use Rattle.later_arrivals.specs.declared.Arrival.{Arrival}
 use Rattle.history.specs.Refusals.{Old, ArrivalGiven, ForgettingGiven, PlaceGiven}
 use Rattle.metric.specs.Metric.{congested}
 use Rattle.window.specs.Ring.{cellsOfAPlace}
 use Rattle.window.specs.declared.Move.the-variants as move
 use Rattle.lists.specs.declared.Found.the-variants.{At, Nothing}
 use Rattle.places.specs.declared.Holding.the-variants.{Free, Held}
-use Rattle.arrivals.specs.declared.Arrival.the-variants as arrival
+use Rattle.later_arrivals.specs.declared.Arrival.the-variants as arrival
 use Rattle.store.specs.declared.Forgetting.the-variants as forgetting
 
 -- ---- how a number moves a window

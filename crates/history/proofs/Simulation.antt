@@ -29,7 +29,7 @@ use Rattle.places.proofs.Held.{held-highest}
 use Rattle.cells.specs.Cell.{readCell, wordAfter}
 use Rattle.arrivals.specs.Arrivals.{arrivedAt, arrived}
 use Rattle.store.specs.Store.{forgottenAt, forgotten, answerOf, placeOf}
-use Rattle.arrivals.specs.declared.Arrival.{Arrival}
+use Rattle.later_arrivals.specs.declared.Arrival.{Arrival}
 use Rattle.history.specs.Calls.{Call, arrive, forget, toArrival, toForgetting, Store, storeStep, storeAnswer, storeRun, storeAnswers, CallInRange}
 use Rattle.history.specs.Meaning.{Entry, fullOf, firstFull, cellBy, EntryInRange}
 use Rattle.history.specs.Model.{Place, free, stream, names, isVacant, highestIn, at, findIn, vacantIn, Arrived, refusedIn, addedAt}
@@ -46,7 +46,7 @@ use Rattle.metric.specs.declared.Cell.the-variants.{Empty}
 use Rattle.window.specs.declared.Move.the-variants as move
 use Rattle.lists.specs.declared.Found.the-variants.{At, Nothing}
 use Rattle.places.specs.declared.Holding.the-variants.{Held}
-use Rattle.arrivals.specs.declared.Arrival.the-variants as arrival
+use Rattle.later_arrivals.specs.declared.Arrival.the-variants as arrival
 
 -- ---- the machine's answer to an arrival at a held place
 module _ (ps : List Place) (k ssrc full mark : ℕ) (time : Time) where

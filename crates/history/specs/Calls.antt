@@ -8,10 +8,10 @@ use Rattle.metric.specs.declared.Time.{Time}
 use Rattle.metric.specs.Metric.{TimeInRange}
 use Rattle.arrivals.specs.Arrivals.{arrived}
 use Rattle.store.specs.Store.{forgotten}
-use Rattle.arrivals.specs.declared.Arrival.{Arrival}
+use Rattle.later_arrivals.specs.declared.Arrival.{Arrival}
 use Rattle.store.specs.declared.Forgetting.{Forgetting}
 use Rattle.window.specs.Number.{sequenceNumbers}
-use Rattle.arrivals.specs.declared.Arrival.the-variants as arrival
+use Rattle.later_arrivals.specs.declared.Arrival.the-variants as arrival
 use Rattle.store.specs.declared.Forgetting.the-variants as forgetting
 
 -- arrive: SSRC, sequence number, mark, time. forget: SSRC

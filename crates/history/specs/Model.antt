@@ -9,7 +9,7 @@ use Rattle.lists.specs.First.{firstFrom}
 use Rattle.lists.specs.declared.Found.{Found}
 use Rattle.refusal.specs.declared.Refusal.{Refusal}
 use Rattle.metric.specs.declared.Time.{Time}
-use Rattle.arrivals.specs.declared.Arrival.{Arrival}
+use Rattle.later_arrivals.specs.declared.Arrival.{Arrival}
 use Rattle.store.specs.declared.Forgetting.{Forgetting}
 use Rattle.store.specs.declared.PlaceAnswer.{PlaceAnswer}
 use Rattle.history.specs.Calls.{Call, arrive, forget, CallAnswer, toArrival, toForgetting, run, answers}
@@ -19,7 +19,7 @@ use Rattle.window.specs.Number.{sequenceNumbers}
 use Rattle.window.specs.Ring.{cellsOfAPlace}
 use Rattle.refusal.specs.declared.Refusal.the-variants.{BadMark, NoFreePlace, TooOld, NotHeld}
 use Rattle.lists.specs.declared.Found.the-variants.{At, Nothing}
-use Rattle.arrivals.specs.declared.Arrival.the-variants as arrival
+use Rattle.later_arrivals.specs.declared.Arrival.the-variants as arrival
 use Rattle.store.specs.declared.Forgetting.the-variants as forgetting
 use Rattle.store.specs.declared.PlaceAnswer.the-variants as answer
 

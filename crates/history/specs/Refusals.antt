@@ -12,12 +12,12 @@ use Rattle.places.specs.After.{StoreAfter, PlacesAfter, placesAfter, storeAfter
 use Rattle.places.specs.Held.{Unheld, HeldAt, Vacant}
 use Rattle.store.specs.declared.PlaceAnswer.{PlaceAnswer}
 use Rattle.store.specs.declared.Forgetting.{Forgetting}
-use Rattle.arrivals.specs.declared.Arrival.{Arrival}
+use Rattle.later_arrivals.specs.declared.Arrival.{Arrival}
 use Rattle.arrivals.specs.Arrivals.{arrivalRefused}
 use Rattle.metric.specs.Metric.{congested}
 use Rattle.window.specs.Ring.{cellsOfAPlace}
 use Rattle.places.specs.declared.Holding.the-variants.{Free, Held}
-use Rattle.arrivals.specs.declared.Arrival.the-variants as arrival
+use Rattle.later_arrivals.specs.declared.Arrival.the-variants as arrival
 use Rattle.store.specs.declared.Forgetting.the-variants as forgetting
 use Rattle.store.specs.declared.PlaceAnswer.the-variants as answer
 

@@ -1,2 +1,2 @@
-pub mod Taking
+pub mod Front
 pub mod Pieces

@@ -18,7 +18,7 @@ use Rattle.places.specs.Shape.{Shaped, Misshapen}
 use Rattle.places.specs.After.{StoreAfter}
 use Rattle.places.proofs.Shape.{shaped-is, misshapen-is}
 use Rattle.arrivals.specs.Arrivals.{arrived}
-use Rattle.arrivals.specs.declared.Arrival.{Arrival}
+use Rattle.later_arrivals.specs.declared.Arrival.{Arrival}
 use Rattle.history.specs.Calls.{Store, CallInRange, storeRun}
 use Rattle.history.specs.Reading.{Fresh}
 use Rattle.history.proofs.Simulation.{zeroed-fresh}

@@ -4,12 +4,12 @@ use Prim.Native.Nat.{ℕ}
 use mathlib.Core.Path.{_≡_}
 use mathlib.Core.List.{List, [], _∷_, _++_, foldl}
 use Rattle.lists.specs.All.{All}
-use Rattle.arrivals.specs.declared.Arrival.{Arrival}
+use Rattle.later_arrivals.specs.declared.Arrival.{Arrival}
 use Rattle.arrival_record.specs.declared.Record.{Record}
 use Rattle.line_store.specs.Fresh.{freshPlaces, freshCells}
 use Rattle.refusal.specs.declared.Refusal.the-variants.{NoFreePlace, TooOld}
 use Rattle.metric.specs.declared.Time.the-variants.{Unknown, Known}
-use Rattle.arrivals.specs.declared.Arrival.the-variants as arrival
+use Rattle.later_arrivals.specs.declared.Arrival.the-variants as arrival
 use Rattle.intake.specs.Intake as intake
 
 -- a record is taken, or passed over with refusal 2 or 3

@@ -18,7 +18,8 @@ use Rattle.packet.specs.Sizes.{blockOctets, packetOctets}
 use Rattle.packet.proofs.Sizes.{length-packet}
 use Rattle.walk.specs.Walk.{walked, walkOf}
 use Rattle.reader.specs.Reading.{Decoded, packet, refused, decodePacket}
-use Rattle.rewriter.specs.Rewrite.{rewriteMetric, rewriteBlock, rewritePacket, Clean, rewriteOf}
+use Rattle.metric_rewriter.specs.Metrics.{rewriteMetric}
+use Rattle.rewriter.specs.Rewrite.{rewriteBlock, rewritePacket, Clean, rewriteOf}
 use Rattle.rewriter.specs.declared.Rewriting.{Rewriting}
 use Rattle.rewriter.proofs.Output.{rewrite-octets}
 use Rattle.packet_laws.specs.Asked.{laid, packetMetric}

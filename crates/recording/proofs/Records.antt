@@ -8,7 +8,7 @@ use lib.Seq.{take-all, drop-length, drop-drop}
 use Rattle.refusal.specs.declared.Refusal.{Refusal}
 use Rattle.places.specs.After.{storeAfter}
 use Rattle.arrivals.specs.Arrivals.{arrived}
-use Rattle.arrivals.specs.declared.Arrival.{Arrival}
+use Rattle.later_arrivals.specs.declared.Arrival.{Arrival}
 use Rattle.arrival_record.specs.Record.{recordReadOf, recordOctets}
 use Rattle.arrival_record.specs.declared.Record.{Record}
 use Rattle.arrival_record.specs.declared.RecordRead.{RecordRead}

@@ -4,7 +4,7 @@ use mathlib.Core.List.{List}
 use Rattle.metric.specs.declared.Time.{Time}
 use Rattle.places.specs.After.{StoreAfter}
 use Rattle.arrivals.specs.Arrivals.{arrived}
-use Rattle.arrivals.specs.declared.Arrival.{Arrival}
+use Rattle.later_arrivals.specs.declared.Arrival.{Arrival}
 use Rattle.arrival_record.specs.declared.Record.{Record}
 use Rattle.metric.specs.declared.Time.the-variants.{Unknown, Known}
 

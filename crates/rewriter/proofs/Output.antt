@@ -1,19 +1,16 @@
 -- What the rewriter's steps leave in the output. Assumes nothing.
-use Prim.Native.Nat.{ℕ, zero, suc, _+_, _-_, _*_, _/_, _%_, _<_, _≤_}
+use Prim.Native.Nat.{ℕ, zero, suc, _+_, _-_, _*_, _<_, _≤_}
 use mathlib.Core.Path.{_≡_, refl, sym, ap, _∙_}
 use mathlib.Core.List.{List, [], _∷_, _++_, map}
 use native.Mathlib.Omega.{arith}
-use native.Mathlib.Numerals.{add-one}
-use native.Mathlib.Nat.{add-zero}
 use borrow.Author.Tests.{lt-ltb, le-ltb}
-use lib.ListN.{length, getD, take, drop, set, length-map}
-use lib.Seq.{sets, getD-take, getD-drop}
-use Rattle.lists.proofs.Cases.{split-le}
+use lib.ListN.{length, length-map}
+use lib.Seq.{sets}
 use Rattle.refusal.specs.declared.Refusal.{Refusal}
-use Rattle.octets.specs.Octets.{be16, be32, octets16, octets32}
+use Rattle.octets.specs.Octets.{be32, octets32}
 use Rattle.octets.specs.Output.{outputAfter}
 use Rattle.octets.proofs.Sets.{sets-next, sets-twice}
-use Rattle.packet.specs.Packet.{Block, encodeMetrics, filler, blockHeader, encodeBlock, encodeBlocks, packetHeader, encodePacket, Packet, reportCounts}
+use Rattle.packet.specs.Packet.{Block, filler, blockHeader, encodeBlock, encodeBlocks, packetHeader, encodePacket, Packet, reportCounts}
 use Rattle.packet.specs.Sizes.{blockOctets, blocksOctets, packetOctets}
 use Rattle.packet.proofs.Sizes.{length-metrics, length-block, length-blocks}
 use Rattle.walk.specs.Walk.{rtsAt, stepAt, walked, walkFrom, walkOf}
@@ -26,8 +23,10 @@ use Rattle.reader.specs.Reading.{metricsAt, blockIn, packetIn, decodePacket}
 use Rattle.reader.specs.Steps.{counted}
 use Rattle.reader.specs.declared.Count.{Count}
 use Rattle.reader.proofs.Answers.{length-metricsAt, walked-sound, read-stopped, blocks-walked}
-use Rattle.rewriter.specs.Rewrite.{rewriteMetric, rewriteBlock, rewriteOf, rewritePacket}
-use Rattle.rewriter.specs.Steps.{lowFirst, rewriteLowFirst, onBlock, rewrittenFrom}
+use Rattle.metric_rewriter.specs.Metrics.{rewriteMetric}
+use Rattle.metric_rewriter.proofs.Metrics.{rewrittenOctets}
+use Rattle.rewriter.specs.Rewrite.{rewriteBlock, rewriteOf, rewritePacket}
+use Rattle.rewriter.specs.Steps.{onBlock, rewrittenFrom}
 use Rattle.refusal.specs.declared.Refusal.the-variants.{OutputTooShort}
 use Rattle.walk.specs.declared.Step.the-variants as step
 use Rattle.reader.specs.declared.Count.the-variants.{Blocks, Stopped}
@@ -41,77 +40,25 @@ rewrite-blocks-octets (b ∷ bs) = rw (length-map (b .metrics) rewriteMetric, re
 pub rewrite-octets : (p : Packet) → packetOctets (reportCounts (rewritePacket p .blocks)) ≡ packetOctets (reportCounts (p .blocks))
 rewrite-octets p = rw (rewrite-blocks-octets (p .blocks))
 
-digits : (x y : ℕ) → y < 256 → ((256 * x + y) / 256 ≡ x) × ((256 * x + y) % 256 ≡ y)
-digits x y h = (omega arith, omega arith)
-
--- a metric of the octets a and b, rewritten with a low, has the octets of the rewritten metric, the other way round
-kept-octets : (a b : ℕ) → a < 256 → b < 256
-    → (rewriteLowFirst (256 * b + a) % 256 ≡ rewriteMetric (256 * a + b) / 256) × (rewriteLowFirst (256 * b + a) / 256 ≡ rewriteMetric (256 * a + b) % 256)
-kept-octets a b h l =
-    let x = digits a b l in
-    let y = digits b a h in
-    split-le 128 a
-    (λ g. rw (y .1) (simp (le-ltb a 128 g, le-ltb (256 * a + b) 32768 (omega arith)) (y .1 ∙ sym (x .0), y .0 ∙ sym (x .1))))
-    (λ g. rw (y .1) (simp (lt-ltb a 128 g, lt-ltb (256 * a + b) 32768 (omega arith)) (refl, refl)))
-
--- a part that starts at i is read at its front
-pub low-first-part : (s : List ℕ) (i : ℕ) → i + 2 ≤ length s → lowFirst (take (length s - i) (drop i s)) 0 ≡ lowFirst s i
-low-first-part s i h =
-    rw (
-      getD-take (length s - i) (drop i s) 0 0 (omega arith),
-      getD-take (length s - i) (drop i s) 1 0 (omega arith),
-      getD-drop i s 0 0,
-      getD-drop i s 1 0,
-      add-zero,
-    )
-
 module _ (s : List ℕ) where
-  -- the octets of n rewritten metrics, starting at i
-  abbrev pub rewrittenOctets : ℕ → ℕ → List ℕ
-  rewrittenOctets i n = encodeMetrics (map rewriteMetric (metricsAt s i n))
-
-  -- a turn over the metrics of a block
-  pub metric-turn : (out : List ℕ) (at n j : ℕ) → j < n
-      → sets (sets out (at + 2 * j) (octets16 (rewriteMetric (be16 s (at + 2 * j))))) (at + 2 * (j + 1)) (rewrittenOctets (at + 2 * (j + 1)) (n - (j + 1)))
-      ≡ sets out (at + 2 * j) (rewrittenOctets (at + 2 * j) (n - j))
-  unfolding encodeMetrics metricsAt
-  metric-turn out at n j h =
-      let z : n - j ≡ suc (n - (j + 1)) = omega arith in
-      let y : at + 2 * (j + 1) ≡ at + 2 * j + 2 = omega arith in
-      rw (z, y)
-      (sets-next (octets16 (rewriteMetric (be16 s (at + 2 * j)))) (rewrittenOctets (at + 2 * j + 2) (n - (j + 1))) out (at + 2 * j) (at + 2 * j + 2) refl)
-
-  -- the two octets that a turn writes are those of the rewritten metric
-  pub metric-written : (out : List ℕ) (i k : ℕ) → getD s i 0 < 256 → getD s (i + 1) 0 < 256 → k ≡ rewriteLowFirst (lowFirst s i)
-      → set (set out i (k % 256)) (i + 1) (k / 256) ≡ sets out i (octets16 (rewriteMetric (be16 s i)))
-  unfolding be16
-  metric-written out i k a b e =
-      let x = kept-octets (getD s i 0) (getD s (i + 1) 0) a b in
-      let m = rewriteMetric (be16 s i) in
-      rw (e, x .0, x .1) (ap (λ (q : ℕ). set (set out i (m / 256)) q (m % 256)) (add-one i))
-
-  pub metrics-done : (out : List ℕ) (n j i : ℕ) → n ≤ j → out ≡ sets out i (rewrittenOctets i (n - j))
-  unfolding encodeMetrics metricsAt
-  metrics-done out n j i h = let z : n - j ≡ 0 = omega arith in rw z
-
   pub length-rewrite : (i n : ℕ) → length (map rewriteMetric (metricsAt s i n)) ≡ n
   length-rewrite i n = length-map (metricsAt s i n) rewriteMetric ∙ length-metricsAt s n i
 
   -- a block is written in three parts
   pub block-written : (b : ReportBlock) (out o₁ o₂ o₃ : List ℕ) (at : ℕ) → b .«metrics_at» ≡ at + 8
       → o₁ ≡ sets out at (blockHeader (b .ssrc) (b .«begin_seq») (b .«num_reports»))
-      → o₂ ≡ sets o₁ (at + 8) (rewrittenOctets (at + 8) (b .«num_reports»))
+      → o₂ ≡ sets o₁ (at + 8) (rewrittenOctets s (at + 8) (b .«num_reports»))
       → o₃ ≡ sets o₂ (at + 8 + 2 * b .«num_reports») (filler (b .«num_reports»))
       → o₃ ≡ sets out at (encodeBlock (rewriteBlock (blockIn s b)))
   unfolding encodeBlock
   block-written b out o₁ o₂ o₃ at m e₁ e₂ e₃ =
       let n = b .«num_reports» in
-      let l : length (rewrittenOctets (at + 8) n) ≡ 2 * n = length-metrics (map rewriteMetric (metricsAt s (at + 8) n))
+      let l : length (rewrittenOctets s (at + 8) n) ≡ 2 * n = length-metrics (map rewriteMetric (metricsAt s (at + 8) n))
       ∙ ap (λ (x : ℕ). 2 * x) (length-rewrite (at + 8) n) in
-      let e : o₃ ≡ sets o₁ (at + 8) (rewrittenOctets (at + 8) n ++ filler n) =
-      sets-twice (rewrittenOctets (at + 8) n) (filler n) o₁ o₂ o₃ (at + 8) (at + 8 + 2 * n) e₂ e₃ (omega (arith, l)) in
+      let e : o₃ ≡ sets o₁ (at + 8) (rewrittenOctets s (at + 8) n ++ filler n) =
+      sets-twice (rewrittenOctets s (at + 8) n) (filler n) o₁ o₂ o₃ (at + 8) (at + 8 + 2 * n) e₂ e₃ (omega (arith, l)) in
       rw (m, length-rewrite (at + 8) n)
-      (sets-twice (blockHeader (b .ssrc) (b .«begin_seq») n) (rewrittenOctets (at + 8) n ++ filler n) out o₁ o₃ at (at + 8) e₁ e refl)
+      (sets-twice (blockHeader (b .ssrc) (b .«begin_seq») n) (rewrittenOctets s (at + 8) n ++ filler n) out o₁ o₃ at (at + 8) e₁ e refl)
 
   -- any bound that is enough gives the same octets
   rewritten-enough : (n m at : ℕ) → length s ≤ n + at → length s ≤ m + at → rewrittenFrom n s at ≡ rewrittenFrom m s at

@@ -12,13 +12,10 @@ use Rattle.metric.specs.Metric.{receivedBit}
 use Rattle.packet.specs.Packet.{Block, Packet, encodePacket, reportCounts}
 use Rattle.packet.specs.Sizes.{packetOctets}
 use Rattle.reader.specs.Reading.{Decoded, packet, refused}
+use Rattle.metric_rewriter.specs.Metrics.{rewriteMetric}
 use Rattle.rewriter.specs.declared.Rewriting.{Rewriting}
 use Rattle.refusal.specs.declared.Refusal.the-variants.{OutputTooShort}
 use Rattle.rewriter.specs.declared.Rewriting.the-variants.{Written, Refused}
-
--- a metric without R is of a number that was not received
-abbrev pub rewriteMetric : ℕ → ℕ
-rewriteMetric m = cond (ltb m receivedBit) 0 m
 
 abbrev pub rewriteBlock : Block → Block
 rewriteBlock b = record { ssrc = b .ssrc; begin = b .begin; metrics = map rewriteMetric (b .metrics) }

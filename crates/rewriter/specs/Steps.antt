@@ -1,10 +1,6 @@
 -- The steps of the code: what they write on the way. No statement for a caller needs these.
-use Prim.Native.Nat.{ℕ, zero, suc, _+_, _*_, _%_, _^_}
-use mathlib.Core.Bool.{cond}
+use Prim.Native.Nat.{ℕ, zero, suc, _+_}
 use mathlib.Core.List.{List, [], _++_}
-use lib.ListN.{getD}
-use lib.Dec.{ltb}
-use Rattle.octets.specs.Octets.{octetValues}
 use Rattle.packet.specs.Packet.{encodeBlock}
 use Rattle.walk.specs.Walk.{stepAt}
 use Rattle.walk.specs.declared.ReportBlock.{ReportBlock}
@@ -12,17 +8,6 @@ use Rattle.walk.specs.declared.Step.{Step}
 use Rattle.reader.specs.Reading.{blockIn}
 use Rattle.rewriter.specs.Rewrite.{rewriteBlock}
 use Rattle.walk.specs.declared.Step.the-variants as step
-
--- two octets as a number, the first one low
-abbrev pub lowFirst : List ℕ → ℕ → ℕ
-lowFirst s i = octetValues * getD s (i + 1) 0 + getD s i 0
-
--- a metric so read, rewritten: R is the high bit of its first octet
-abbrev pub receivedLowFirst : ℕ
-receivedLowFirst = 2 ^ 7
-
-abbrev pub rewriteLowFirst : ℕ → ℕ
-rewriteLowFirst m = cond (ltb (m % octetValues) receivedLowFirst) 0 m
 
 -- what is made of a block; of an end or a refusal nothing
 abbrev pub onBlock : Step → (ReportBlock → ℕ → List ℕ) → List ℕ

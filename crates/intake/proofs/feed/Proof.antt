@@ -1,5 +1,5 @@
 -- `intake::feed` meets its contract. Assumes nothing.
-use Rattle.intake.proofs.Taking.{front-kept}
+use Rattle.intake.proofs.Front.{front-kept}
 use borrow.Author.Needs.{needs}
 use Rattle.intake.proofs.feed.Statement.{statement}
 use Rattle.intake.proofs.feed.Tie as tie

@@ -5,7 +5,7 @@ use native.Mathlib.Omega.{arith}
 use native.Mathlib.Nat.{add-zero}
 use lib.ListN.{length, drop, length-set}
 use lib.Seq.{sets}
-use Rattle.intake.proofs.Taking.{one-moved, none-moved}
+use Rattle.intake.proofs.Front.{one-moved, none-moved}
 use Rattle.intake.proofs.move_to_front.Statement.{statement}
 use Rattle.intake.proofs.move_to_front.Tie as tie
 

@@ -1,7 +1,7 @@
--- `rewriter::rewrite_low_first` meets its contract. Assumes nothing.
+-- `metric_rewriter::rewrite_low_first` meets its contract. Assumes nothing.
 use borrow.Author.Tests.{lt-ltb, le-ltb}
-use Rattle.rewriter.proofs.rewrite_low_first.Statement.{statement}
-use Rattle.rewriter.proofs.rewrite_low_first.Tie as tie
+use Rattle.metric_rewriter.proofs.rewrite_low_first.Statement.{statement}
+use Rattle.metric_rewriter.proofs.rewrite_low_first.Tie as tie
 
 returns : tie.Need-returns
 returns c = simp (lt-ltb _ _ (c .if1 .taken))

@@ -1,4 +1,4 @@
--- `rewriter::rewrite_metrics` meets its contract. The invariant: what is left to write from here makes of the output
+-- `metric_rewriter::rewrite_metrics` meets its contract. The invariant: what is left to write from here makes of the output
 -- what the whole makes of it at the start. Assumes nothing.
 use Prim.Native.Nat.{_+_, _-_, _*_, _≤_}
 use mathlib.Core.Path.{_≡_, refl, ap, _∙_}
@@ -6,11 +6,11 @@ use native.Mathlib.Omega.{arith}
 use native.Mathlib.Nat.{sub-zero, add-zero}
 use lib.ListN.{length, length-set}
 use lib.Seq.{sets}
-use Rattle.rewriter.specs.Steps.{rewriteLowFirst}
-use Rattle.rewriter.proofs.Output.{rewrittenOctets, metric-turn, metric-written, metrics-done}
+use Rattle.metric_rewriter.specs.Steps.{rewriteLowFirst}
+use Rattle.metric_rewriter.proofs.Metrics.{rewrittenOctets, metric-turn, metric-written, metrics-done}
 use borrow.Author.Needs.{needs}
-use Rattle.rewriter.proofs.rewrite_metrics.Statement.{statement}
-use Rattle.rewriter.proofs.rewrite_metrics.Tie as tie
+use Rattle.metric_rewriter.proofs.rewrite_metrics.Statement.{statement}
+use Rattle.metric_rewriter.proofs.rewrite_metrics.Tie as tie
 
 abbrev Inv-loop : tie.InvT-loop
 Inv-loop packet out₀ at n j₀ out j =

@@ -1,8 +1,8 @@
--- `intake::take` meets its contract. Assumes nothing.
-use Rattle.intake.proofs.Taking.{in-records, in-fault, stopped, taken-as}
+-- `taking::take` meets its contract. Assumes nothing.
+use Rattle.taking.proofs.Taking.{in-records, in-fault, stopped, taken-as}
 use borrow.Author.Needs.{needs}
-use Rattle.intake.proofs.take.Statement.{statement}
-use Rattle.intake.proofs.take.Tie as tie
+use Rattle.taking.proofs.take.Statement.{statement}
+use Rattle.taking.proofs.take.Tie as tie
 
 returns : tie.Need-returns
 returns c =

@@ -1,11 +1,10 @@
--- Laws for the loops of `intake`. Assumes nothing.
-use Prim.Native.Nat.{ℕ, suc, _+_, _-_, _/_, _<_, _≤_}
-use mathlib.Core.Path.{_≡_, ap, _∙_}
+-- What is taken of the octets at hand, by the phase of the file. Assumes nothing.
+use Prim.Native.Nat.{ℕ, _-_, _/_, _<_, _≤_}
+use mathlib.Core.Path.{_≡_, _∙_}
 use mathlib.Core.List.{List, []}
 use native.Mathlib.Omega.{arith}
-use native.Mathlib.Numerals.{add-one}
-use lib.ListN.{length, getD, set, drop, length-drop, drop-of-length-le}
-use lib.Seq.{sets, length-sets, drop-length, drop-cons, drop-set-lt}
+use lib.ListN.{length, drop}
+use lib.Seq.{drop-length}
 use borrow.Author.Tests.{lt-ltb, le-ltb}
 use Rattle.refusal.specs.declared.Refusal.{Refusal}
 use Rattle.arrival_record.specs.Record.{recordOctets}
@@ -14,26 +13,9 @@ use Rattle.arrival_file.specs.Pieces.{Feeding, feeding, taken, takenHere}
 use Rattle.arrival_file.specs.declared.Phase.{Phase}
 use Rattle.recording.specs.declared.Taken.{Taken}
 use Rattle.recording.specs.Recorded.{Recorded, recorded, afterRecord}
-use Rattle.intake.specs.Intake.{intakeAfter, kept}
 use Rattle.recording.specs.Steps.{TakenTo}
 use Rattle.arrival_file.specs.declared.Phase.the-variants.{Header, Records, Faulty}
 use Rattle.arrival_file.specs.declared.Check.the-variants.{Sound, Refused}
-
--- ---- octets that are moved to the front
-
-module _ (s : List ℕ) (from i : ℕ) (h : from + i < length s) where
-  -- what one step leaves to be moved
-  pub one-moved : sets (set s i (getD s (from + i) 0)) (i + 1) (drop (from + (i + 1)) (set s i (getD s (from + i) 0))) ≡ sets s i (drop (from + i) s)
-  one-moved =
-      let d : drop (from + (i + 1)) (set s i (getD s (from + i) 0)) ≡ drop (from + (i + 1)) s =
-      drop-set-lt (from + (i + 1)) s i (getD s (from + i) 0) (omega arith) in
-      let n : from + (i + 1) ≡ suc (from + i) = omega arith in
-      rw (d, n, add-one i, drop-cons s (from + i) 0 h)
-
-pub none-moved : (s : List ℕ) (from i : ℕ) → length s ≤ from + i → sets s i (drop (from + i) s) ≡ s
-none-moved s from i h = rw (drop-of-length-le s {i = from + i} h)
-
--- ---- a file
 
 module _ (s places cells : List ℕ) (rts : ℕ) where
   -- nothing is taken of a header that is not whole
@@ -71,10 +53,3 @@ module _ (s places cells : List ℕ) (rts : ℕ) where
 -- the same, where what is taken is known by another name
 pub taken-as : (places cells s : List ℕ) (t : Taken) (f g : Feeding Recorded) → f ≡ g → TakenTo places cells s t f → TakenTo places cells s t g
 taken-as places cells s t f g e h = record { within = h .within; is = h .is ∙ e }
-
--- what is not taken comes to the front
-pub front-kept : (places cells s s′ : List ℕ) (t : Taken) (f : Feeding Recorded) → TakenTo places cells s t f → s′ ≡ sets s 0 (drop (t .at) s)
-    → intakeAfter (record { phase = t .phase; rts = t .rts; left = length s′ - t .at }) places cells s′ ≡ kept f s
-front-kept places cells s s′ t f h e =
-    let n : length s′ - t .at ≡ length (drop (t .at) s) = omega (arith, ap length e, length-sets s 0 (drop (t .at) s), length-drop (t .at) s) in
-    rw (n, e, ← h .is)

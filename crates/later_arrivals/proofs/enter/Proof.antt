@@ -1,8 +1,8 @@
--- `arrivals::enter` meets its contract. Assumes nothing.
+-- `later_arrivals::enter` meets its contract. Assumes nothing.
 use Rattle.place_window.specs.Window.{updated}
 use borrow.Author.Needs.{needs}
-use Rattle.arrivals.proofs.enter.Statement.{statement}
-use Rattle.arrivals.proofs.enter.Tie as tie
+use Rattle.later_arrivals.proofs.enter.Statement.{statement}
+use Rattle.later_arrivals.proofs.enter.Tie as tie
 
 returns : tie.Need-returns
 unfolding updated

@@ -1,4 +1,4 @@
--- `arrivals::resume` meets its contract. Assumes nothing.
+-- `later_arrivals::resume` meets its contract. Assumes nothing.
 use Prim.Native.Nat.{min}
 use mathlib.Core.Path.{_≡_, sym, _∙_}
 use native.Mathlib.Omega.{arith}
@@ -7,10 +7,10 @@ use Rattle.window.specs.Ring.{cellsOfAPlace}
 use Rattle.window.proofs.Number.{ahead-is}
 use Rattle.places.specs.Place.{highestAt}
 use Rattle.place_window.proofs.Moving.{continued-by}
-use Rattle.arrivals.proofs.Calls.{continued-ahead}
+use Rattle.later_arrivals.proofs.Opening.{continued-ahead}
 use borrow.Author.Needs.{needs}
-use Rattle.arrivals.proofs.resume.Statement.{statement}
-use Rattle.arrivals.proofs.resume.Tie as tie
+use Rattle.later_arrivals.proofs.resume.Statement.{statement}
+use Rattle.later_arrivals.proofs.resume.Tie as tie
 
 -- how the number moves the window of the place
 step-is : (c : tie.After-move-of)

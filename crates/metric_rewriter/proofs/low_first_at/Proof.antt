@@ -1,9 +1,9 @@
--- `rewriter::low_first_at` meets its contract. Assumes nothing.
+-- `metric_rewriter::low_first_at` meets its contract. Assumes nothing.
 use mathlib.Core.Path.{_∙_}
-use Rattle.rewriter.proofs.Output.{low-first-part}
+use Rattle.metric_rewriter.proofs.Metrics.{low-first-part}
 use borrow.Author.Needs.{needs}
-use Rattle.rewriter.proofs.low_first_at.Statement.{statement}
-use Rattle.rewriter.proofs.low_first_at.Tie as tie
+use Rattle.metric_rewriter.proofs.low_first_at.Statement.{statement}
+use Rattle.metric_rewriter.proofs.low_first_at.Tie as tie
 
 returns : tie.Need-returns
 returns c =

@@ -1,10 +1,10 @@
--- `intake::take_file` meets its contract. Assumes nothing.
+-- `taking::take_file` meets its contract. Assumes nothing.
 use mathlib.Core.Path.{sym, _∙_}
 use native.Mathlib.Omega.{arith}
-use Rattle.intake.proofs.Taking.{header-short, header-sound, header-refused, stopped, taken-as}
+use Rattle.taking.proofs.Taking.{header-short, header-sound, header-refused, stopped, taken-as}
 use borrow.Author.Needs.{needs}
-use Rattle.intake.proofs.take_file.Statement.{statement}
-use Rattle.intake.proofs.take_file.Tie as tie
+use Rattle.taking.proofs.take_file.Statement.{statement}
+use Rattle.taking.proofs.take_file.Tie as tie
 
 returns : tie.Need-returns
 returns c = header-short _ _ _ _ (omega arith)
