@@ -18,7 +18,7 @@ use Rattle.cutting.proofs.Requests.{noRequest, blocks-cons, blocks-none, stream
 use Rattle.blocks.specs.declared.Position.{Position}
 use Rattle.blocks.specs.Packets.{reportBlock}
 use Rattle.blocks.specs.Steps.{skipNumbers, remaining, InFirst, InRange, PutBlocks}
-use Rattle.blocks.proofs.Metrics.{length-of}
+use Rattle.report_block.proofs.Metrics.{length-of}
 use Rattle.cutting.specs.declared.NextBlock.the-variants.{Whole, Part, Closed}
 
 -- ---- positions

@@ -1,2 +1,1 @@
-pub mod Metrics
 pub mod Blocks

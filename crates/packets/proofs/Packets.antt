@@ -19,7 +19,7 @@ use Rattle.cutting.proofs.Plan.{filled-fits, filled-less, plan-none, plan-step}
 use Rattle.blocks.specs.declared.Position.{Position}
 use Rattle.blocks.specs.Packets.{reportBlock, reportPacket, encodePackets}
 use Rattle.blocks.specs.Steps.{remaining, nextPacket}
-use Rattle.blocks.proofs.Metrics.{length-of}
+use Rattle.report_block.proofs.Metrics.{length-of}
 use Rattle.blocks.proofs.Blocks.{rangeAt, remaining-at, remaining-next, remaining-past}
 use Rattle.packet.specs.Packet as packet
 

@@ -34,7 +34,7 @@ use Rattle.cutting.specs.declared.Request.{Request}
 use Rattle.cutting.proofs.Plan.{after-sum}
 use Rattle.cutting.proofs.ToRules.{elsewhere}
 use Rattle.blocks.specs.Packets.{storeMetricAt, reportBlock, reportPacket, encodePackets}
-use Rattle.blocks.proofs.Metrics.{length-of}
+use Rattle.report_block.proofs.Metrics.{length-of}
 use Rattle.writer_laws.specs.Read.{firstOctets, walkLengths, packetsIn, requestOf, blockRead, blocksRead, cuttingRead, seenAt, MetricsRead}
 use Rattle.writer_laws.proofs.Small.{Small, metricAsked}
 use Rattle.lists.specs.declared.Found.the-variants.{At, Nothing}

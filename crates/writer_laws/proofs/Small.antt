@@ -21,7 +21,7 @@ use Rattle.cutting.specs.Plan.{fitting, numberAfter, filledFrom, packetsFrom, m
 use Rattle.cutting.specs.declared.Request.{Request}
 use Rattle.cutting.proofs.Plan.{filled-none, filled-cases}
 use Rattle.blocks.specs.Packets.{storeMetricAt, storeMetric, reportBlock, reportPacket}
-use Rattle.blocks.proofs.Metrics.{length-of}
+use Rattle.report_block.proofs.Metrics.{length-of}
 use Rattle.packets.proofs.Packets.{blocks-octets, packet-fits}
 use Rattle.metric.specs.declared.Time.the-variants.{Unknown, Known}
 use Rattle.metric.specs.declared.Cell.the-variants.{Empty, Filled}

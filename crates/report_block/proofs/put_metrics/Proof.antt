@@ -1,4 +1,4 @@
--- `blocks::put_metrics` meets its contract. The invariant: the metrics that are left, written onto the output
+-- `report_block::put_metrics` meets its contract. The invariant: the metrics that are left, written onto the output
 -- as it is, give what all of them, written onto the output at entry, give. Assumes nothing.
 use Prim.Native.Nat.{_+_, _*_, _≤_}
 use mathlib.Core.Path.{_≡_, refl, sym, ap, _∙_}
@@ -6,10 +6,10 @@ use lib.ListN.{length}
 use lib.Seq.{sets}
 use Rattle.store.specs.Store.{cellMetric}
 use Rattle.packet.specs.Packet.{encodeMetrics}
-use Rattle.blocks.proofs.Metrics.{metricsOf, metrics-turn, metrics-none}
+use Rattle.report_block.proofs.Metrics.{metricsOf, metrics-turn, metrics-none}
 use borrow.Author.Needs.{needs}
-use Rattle.blocks.proofs.put_metrics.Statement.{statement}
-use Rattle.blocks.proofs.put_metrics.Tie as tie
+use Rattle.report_block.proofs.put_metrics.Statement.{statement}
+use Rattle.report_block.proofs.put_metrics.Tie as tie
 
 abbrev Inv-loop : tie.InvT-loop
 Inv-loop out₀ at cells rts p begin count i₀ number₀ left₀ out i number left = (length out ≡ length out₀) × (i + 2 * left ≤ at + 2 * count)

@@ -1,9 +1,9 @@
--- `blocks::put_block` meets its contract. Assumes nothing.
+-- `report_block::put_block` meets its contract. Assumes nothing.
 use Rattle.store.specs.Store.{cellMetric}
-use Rattle.blocks.proofs.Metrics.{block-parts}
+use Rattle.report_block.proofs.Metrics.{block-parts}
 use borrow.Author.Needs.{needs}
-use Rattle.blocks.proofs.put_block.Statement.{statement}
-use Rattle.blocks.proofs.put_block.Tie as tie
+use Rattle.report_block.proofs.put_block.Statement.{statement}
+use Rattle.report_block.proofs.put_block.Tie as tie
 
 returns : tie.Need-returns
 returns c =
