@@ -48,8 +48,8 @@ pub fn metric_of_word(word: u64, rts: u32) -> u16
 {
     let kind = word % KINDS;
     let time = (word / KINDS % TIMES) as u32;
-    let timed = arrival_offset::ato_of_age(arrival_offset::age(rts, time));
+    let timed = metric_encode::ato_of_age(metric_encode::age(rts, time));
     let ato = if kind < LEAST_TIMED { NO_TIME } else { timed };
-    let filled = metric_encode::assembled((word % 4) as u8, ato);
+    let filled = metric::assembled((word % 4) as u8, ato);
     if kind < LEAST_FILLED { 0 } else { filled }
 }

@@ -1,7 +1,8 @@
 // The 16-bit metric of a sequence number: R, 2 bits ECN mark, 13 bits arrival time offset (ATO). What all that encode and
 // decode it share.
 ghost use mathlib.Core.Path.{_≡_};
-ghost use Rattle.metric.specs.Metric.{timeOf};
+ghost use Prim.Native.Nat.{_<_};
+ghost use Rattle.metric.specs.Metric.{timeOf, markUnit, assembledOf};
 
 // How many times there are.
 pub const TIMES: u64 = 0x1_0000_0000;
@@ -49,4 +50,12 @@ pub fn time_of(known: bool, time: u32) -> Time
     } else {
         Time::Unknown
     }
+}
+
+// The metric of a number that was received with a mark, at that offset.
+pub fn assembled(mark: u8, ato: u16) -> u16
+    requires bits { ⌜ ato < markUnit ⌝ }
+    ensures value { λ r. ⌜ r ≡ assembledOf mark ato ⌝ }
+{
+    RECEIVED_BIT + MARK_UNIT * ((mark % 4) as u16) + ato
 }

@@ -1,5 +1,4 @@
 // How many packets a plan has, and their octets, before any is written.
-ghost use mathlib.Core.Path.{_≡_};
 ghost use Prim.Native.Nat.{_≤_, _<_};
 ghost use lib.ListN.{take};
 ghost use Rattle.cutting.specs.Limits.{leastLimit, mostLimit, mostRequests};

@@ -1,5 +1,4 @@
 // Takes what is whole of the octets of an arrival file that are at hand: the header, and then records.
-ghost use mathlib.Core.Path.{_≡_};
 ghost use Rattle.arrival_file.specs.Pieces.{takenHere};
 ghost use Rattle.recording.specs.Recorded.{recorded, afterRecord};
 ghost use Rattle.recording.specs.Steps.{TakenTo};

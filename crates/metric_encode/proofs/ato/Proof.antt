@@ -1,7 +1,7 @@
--- `arrival_offset::ato` meets its contract. Assumes nothing.
+-- `metric_encode::ato` meets its contract. Assumes nothing.
 use borrow.Author.Needs.{needs}
-use Rattle.arrival_offset.proofs.ato.Statement.{statement}
-use Rattle.arrival_offset.proofs.ato.Tie as tie
+use Rattle.metric_encode.proofs.ato.Statement.{statement}
+use Rattle.metric_encode.proofs.ato.Tie as tie
 
 returns-2 : tie.Need-returns-2
 returns-2 c =

@@ -1,11 +1,11 @@
--- `arrival_offset::ato_of_age` meets its contract. Assumes nothing.
+-- `metric_encode::ato_of_age` meets its contract. Assumes nothing.
 use mathlib.Core.Path.{sym, _∙_}
 use mathlib.Core.Logic.{⊎-elim}
 use native.Mathlib.Omega.{arith}
 use borrow.Author.Needs.{needs}
 use Rattle.metric.proofs.Table.{after-row, over-row, else-row}
-use Rattle.arrival_offset.proofs.ato_of_age.Statement.{statement}
-use Rattle.arrival_offset.proofs.ato_of_age.Tie as tie
+use Rattle.metric_encode.proofs.ato_of_age.Statement.{statement}
+use Rattle.metric_encode.proofs.ato_of_age.Tie as tie
 
 returns : tie.Need-returns
 returns c = (sym (after-row _ (c .if2 .taken)), omega arith)

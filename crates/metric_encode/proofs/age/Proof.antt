@@ -1,7 +1,7 @@
--- `arrival_offset::age` meets its contract. Assumes nothing.
+-- `metric_encode::age` meets its contract. Assumes nothing.
 use borrow.Author.Needs.{needs}
-use Rattle.arrival_offset.proofs.age.Statement.{statement}
-use Rattle.arrival_offset.proofs.age.Tie as tie
+use Rattle.metric_encode.proofs.age.Statement.{statement}
+use Rattle.metric_encode.proofs.age.Tie as tie
 
 returns : tie.Need-returns
 returns c = search needs

@@ -1,7 +1,7 @@
--- `metric_encode::assembled` meets its contract. Assumes nothing.
+-- `metric::assembled` meets its contract. Assumes nothing.
 use borrow.Author.Needs.{needs}
-use Rattle.metric_encode.proofs.assembled.Statement.{statement}
-use Rattle.metric_encode.proofs.assembled.Tie as tie
+use Rattle.metric.proofs.assembled.Statement.{statement}
+use Rattle.metric.proofs.assembled.Tie as tie
 
 returns : tie.Need-returns
 returns c = search needs
