@@ -9,7 +9,7 @@ use lib.ListN.{set}
 use Rattle.lists.specs.declared.Found.the-variants.{At, Nothing}
 use Rattle.refusal.specs.declared.Refusal.the-variants.{BadMark, NoFreePlace, BadStore}
 use Rattle.metric.specs.declared.Time.{Time}
-use Rattle.window.specs.Ring.{cellsOfAPlace}
+use Rattle.ring.specs.Ring.{cellsOfAPlace}
 use Rattle.places.specs.Place.{placeWord, findOf, freeOf}
 use Rattle.places.specs.Shape.{shaped, Ready}
 use Rattle.place_window.specs.Window.{opened, continued}

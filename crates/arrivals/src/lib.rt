@@ -7,7 +7,7 @@ use lists::Found;
 use metric::CONGESTED;
 use metric::Time;
 use refusal::Refusal;
-use window::CELLS_OF_A_PLACE;
+use ring::CELLS_OF_A_PLACE;
 
 // One arrival: refusals 4, 1, then 3 or 2.
 pub fn arrive(

@@ -5,7 +5,7 @@ use mathlib.Core.List.{List, [], _∷_, map}
 use Prim.Native.Nat.{ℕ, _+_, _-_, _*_, _≤_, _<_}
 use lib.ListN.{length, drop, getD}
 use lib.Seq.{sets}
-use Rattle.window.specs.Ring.{cellsOfAPlace}
+use Rattle.ring.specs.Ring.{cellsOfAPlace}
 use Rattle.store.specs.Store.{cellMetric}
 use Rattle.packet.specs.Packet.{encodeBlocks, encodePacket}
 use Rattle.packet.specs.Sizes.{blocksOctets, packetFrame, packetOctets, packetHeaderOctets}

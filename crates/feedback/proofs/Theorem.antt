@@ -9,7 +9,7 @@ use Rattle.lists.proofs.All.{all-map}
 use Rattle.metric.specs.Metric.{seenOf}
 use Rattle.metric.specs.declared.Cell.{Cell}
 use Rattle.window.specs.Number.{sequenceNumbers, distanceOf}
-use Rattle.window.specs.Ring.{cellsOfAPlace}
+use Rattle.ring.specs.Ring.{cellsOfAPlace}
 use Rattle.places.specs.Place.{findOf, placeAt}
 use Rattle.places.specs.Held.{HeldAt}
 use Rattle.places.proofs.Held.{held-found}

@@ -6,7 +6,7 @@ use native.Mathlib.Omega.{arith}
 use Rattle.lists.specs.All.{All}
 use Rattle.lists.proofs.Cases.{split-le}
 use Rattle.window.specs.Number.{distanceOf}
-use Rattle.window.specs.Ring.{cellsOfAPlace}
+use Rattle.ring.specs.Ring.{cellsOfAPlace}
 use Rattle.place_window.specs.Window.{cellAt}
 use Rattle.places.specs.declared.Holding.{Holding}
 use Rattle.cells.specs.Cell.{readCell}

@@ -8,7 +8,7 @@ use Rattle.lists.specs.All.{All}
 use Rattle.metric.specs.Metric.{seenOf}
 use Rattle.metric.specs.declared.Metric.{Metric}
 use Rattle.window.specs.Number.{sequenceNumbers, distanceOf}
-use Rattle.window.specs.Ring.{cellsOfAPlace}
+use Rattle.ring.specs.Ring.{cellsOfAPlace}
 use Rattle.history.specs.Calls.{Call, Store, storeRun, storeAnswers, Accepted, acceptedOf}
 use Rattle.history.specs.Meaning.{topOf, entriesOf, cellBy, AsArrivals}
 use Rattle.walk.specs.Walk.{walkOf}

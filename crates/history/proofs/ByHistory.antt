@@ -31,7 +31,7 @@ use Rattle.history.proofs.Once.{foundIn}
 use Rattle.history.proofs.Heard.{placeBy, Kept, run-kept, vacant-kept}
 use Rattle.metric.specs.Metric.{congested}
 use Rattle.window.specs.Number.{sequenceNumbers}
-use Rattle.window.specs.Ring.{cellsOfAPlace}
+use Rattle.ring.specs.Ring.{cellsOfAPlace}
 use Rattle.lists.specs.declared.Found.the-variants.{At, Nothing}
 use Rattle.places.specs.declared.Holding.the-variants.{Held}
 

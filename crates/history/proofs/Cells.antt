@@ -10,8 +10,8 @@ use lib.Seq.{getD-set-same, getD-set-other}
 use Rattle.metric.specs.declared.Time.{Time}
 use Rattle.metric.specs.declared.Cell.{Cell}
 use Rattle.metric.specs.Metric.{TimeInRange, congested, times}
-use Rattle.window.specs.Ring.{cellsOfAPlace}
-use Rattle.window.proofs.Ring.{emptied-kept, emptied-gone, length-emptied}
+use Rattle.ring.specs.Ring.{cellsOfAPlace}
+use Rattle.ring.proofs.Ring.{emptied-kept, emptied-gone, length-emptied}
 use Rattle.place_window.specs.Window.{cellAt, newestEmptied, updated}
 use Rattle.cells.specs.Cell.{wordTime, readCell, filledWord, foldedMark, wordAfter, leastFilled, kinds, leastTimed}
 use Rattle.cells.proofs.Words.{folded-small, after-empty, after-filled}

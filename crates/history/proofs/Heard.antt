@@ -19,7 +19,7 @@ use Rattle.history.specs.Model.{laterAt, startedIn, arrivedIn, modelArri
 use Rattle.history.proofs.Simulation.{later-old, later-in, named-is, vacant-is, vacant-at}
 use Rattle.history.proofs.Once.{Once, foundIn, streamIn, names-one, stream-none, lost, set-once, set-other, set-same, set-none}
 use Rattle.metric.specs.Metric.{congested}
-use Rattle.window.specs.Ring.{cellsOfAPlace}
+use Rattle.ring.specs.Ring.{cellsOfAPlace}
 use Rattle.lists.specs.declared.Found.the-variants.{At, Nothing}
 
 -- a stream with its accepted arrivals

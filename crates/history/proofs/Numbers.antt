@@ -5,7 +5,7 @@ use native.Mathlib.Omega.{arith}
 use native.Mathlib.Decide.{decLe}
 use borrow.Author.Tests.{le-leb, lt-leb}
 use Rattle.window.specs.Number.{distanceOf, farthestAhead, sequenceNumbers}
-use Rattle.window.specs.Ring.{cellsOfAPlace}
+use Rattle.ring.specs.Ring.{cellsOfAPlace}
 use Rattle.history.specs.Meaning.{fullOf}
 
 module _ (top number : ℕ) (begun : sequenceNumbers ≤ top) (low : number < sequenceNumbers) where

@@ -30,7 +30,7 @@ use Rattle.store.specs.declared.Forgetting.{Forgetting}
 use Rattle.later_arrivals.specs.declared.Arrival.{Arrival}
 use Rattle.history.specs.Refusals.{Old, ArrivalGiven, ForgettingGiven, PlaceGiven}
 use Rattle.metric.specs.Metric.{congested}
-use Rattle.window.specs.Ring.{cellsOfAPlace}
+use Rattle.ring.specs.Ring.{cellsOfAPlace}
 use Rattle.window.specs.declared.Move.the-variants as move
 use Rattle.lists.specs.declared.Found.the-variants.{At, Nothing}
 use Rattle.places.specs.declared.Holding.the-variants.{Free, Held}

@@ -40,7 +40,7 @@ use Rattle.history.proofs.Copies.{by-none, by-above}
 use Rattle.history.proofs.Cells.{length-updated, updated-away, length-newest, newest-away, newest-reads, updated-reads}
 use Rattle.history.proofs.Places.{find-same, free-same, replaced}
 use Rattle.places.specs.Shape.{mostPlaces}
-use Rattle.window.specs.Ring.{cellsOfAPlace}
+use Rattle.ring.specs.Ring.{cellsOfAPlace}
 use Rattle.refusal.specs.declared.Refusal.the-variants.{TooOld}
 use Rattle.metric.specs.declared.Cell.the-variants.{Empty}
 use Rattle.window.specs.declared.Move.the-variants as move

@@ -10,7 +10,7 @@ use Rattle.metric.specs.declared.Cell.{Cell}
 use Rattle.metric.specs.Metric.{TimeInRange, congested}
 use Rattle.window.specs.Number.{distanceOf, sequenceNumbers, farthestAhead}
 use Rattle.history.specs.Calls.{Accepted}
-use Rattle.window.specs.Ring.{cellsOfAPlace}
+use Rattle.ring.specs.Ring.{cellsOfAPlace}
 use Rattle.metric.specs.declared.Cell.the-variants.{Empty, Filled}
 
 -- an accepted arrival with its full number

@@ -16,7 +16,7 @@ use Rattle.history.specs.Calls.{Call, arrive, forget, CallAnswer, toArri
 use Rattle.history.specs.Meaning.{Entry, fullOf, firstFull}
 use Rattle.metric.specs.Metric.{congested}
 use Rattle.window.specs.Number.{sequenceNumbers}
-use Rattle.window.specs.Ring.{cellsOfAPlace}
+use Rattle.ring.specs.Ring.{cellsOfAPlace}
 use Rattle.refusal.specs.declared.Refusal.the-variants.{BadMark, NoFreePlace, TooOld, NotHeld}
 use Rattle.lists.specs.declared.Found.the-variants.{At, Nothing}
 use Rattle.later_arrivals.specs.declared.Arrival.the-variants as arrival

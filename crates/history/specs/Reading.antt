@@ -13,7 +13,7 @@ use Rattle.history.specs.Calls.{Store}
 use Rattle.history.specs.Meaning.{Entry, cellBy, EntryInRange}
 use Rattle.history.specs.Model.{Place, free, stream, at}
 use Rattle.window.specs.Number.{sequenceNumbers}
-use Rattle.window.specs.Ring.{cellsOfAPlace}
+use Rattle.ring.specs.Ring.{cellsOfAPlace}
 use Rattle.places.specs.declared.Holding.the-variants.{Free, Held}
 
 -- the place k of a store, read as h, with its cells, has the stream's SSRC, its highest full number and its

@@ -15,7 +15,7 @@ use Rattle.store.specs.declared.Forgetting.{Forgetting}
 use Rattle.later_arrivals.specs.declared.Arrival.{Arrival}
 use Rattle.arrivals.specs.Arrivals.{arrivalRefused}
 use Rattle.metric.specs.Metric.{congested}
-use Rattle.window.specs.Ring.{cellsOfAPlace}
+use Rattle.ring.specs.Ring.{cellsOfAPlace}
 use Rattle.places.specs.declared.Holding.the-variants.{Free, Held}
 use Rattle.later_arrivals.specs.declared.Arrival.the-variants as arrival
 use Rattle.store.specs.declared.Forgetting.the-variants as forgetting

@@ -6,7 +6,7 @@ use native.Mathlib.Omega.{arith}
 use lib.ListN.{length, set}
 use Rattle.metric.specs.declared.Time.{Time}
 use Rattle.window.specs.Number.{moveOf}
-use Rattle.window.specs.Ring.{cellsOfAPlace}
+use Rattle.ring.specs.Ring.{cellsOfAPlace}
 use Rattle.window.proofs.Number.{ahead-is}
 use Rattle.places.specs.Place.{placeWord, highestAt}
 use Rattle.places.specs.Shape.{Ready}

@@ -2,7 +2,7 @@
 ghost use mathlib.Core.Path.{_≡_};
 ghost use Prim.Native.Nat.{_+_, _*_, _≤_};
 ghost use lib.ListN.{length};
-ghost use Rattle.window.specs.Ring.{cellsOfAPlace};
+ghost use Rattle.ring.specs.Ring.{cellsOfAPlace};
 ghost use Rattle.places.specs.Shape.{Ready};
 ghost use Rattle.places.specs.After.{storeAfter};
 ghost use Rattle.place_window.specs.Window.{updated, continued};

@@ -12,7 +12,7 @@ use Rattle.octets.specs.Output.{outputAfter}
 use Rattle.octets.specs.Octets.{Octets}
 use Rattle.metric.specs.declared.Time.{Time}
 use Rattle.metric.specs.Metric.{congested}
-use Rattle.window.specs.Ring.{cellsOfAPlace}
+use Rattle.ring.specs.Ring.{cellsOfAPlace}
 use Rattle.places.specs.Place.{placeAt}
 use Rattle.places.specs.Shape.{Shaped, Misshapen}
 use Rattle.places.specs.After.{StoreAfter}

@@ -9,7 +9,7 @@ use lib.ListN.{length, getD, take, drop, length-take}
 use lib.Seq.{drop-cons, take-suc, drop-length, getD-take}
 use Rattle.lists.proofs.First.{first-at}
 use Rattle.window.specs.Number.{distanceOf, sequenceNumbers}
-use Rattle.window.specs.Ring.{cellsOfAPlace}
+use Rattle.ring.specs.Ring.{cellsOfAPlace}
 use Rattle.places.specs.Place.{readPlace, placeAt, highestAt, isStream, holds, findOf}
 use Rattle.places.specs.declared.Holding.{Holding}
 use Rattle.places.proofs.Held.{held-highest}

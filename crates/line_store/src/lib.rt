@@ -1,7 +1,7 @@
 // The store of ccfbline, before the first record.
 ghost use mathlib.Core.Path.{_≡_};
 ghost use Rattle.line_store.specs.Fresh.{freshPlaces, freshCells};
-use window::CELLS_OF_A_PLACE;
+use ring::CELLS_OF_A_PLACE;
 
 const LINE_PLACES: usize = 4;
 

@@ -7,9 +7,9 @@ use lib.ListN.{length, set}
 use lib.Seq.{getD-set-same, set-set}
 use Rattle.refusal.specs.declared.Refusal.{Refusal}
 use Rattle.window.specs.Number.{moveOf}
-use Rattle.window.specs.Ring.{cellsOfAPlace, emptied}
+use Rattle.ring.specs.Ring.{cellsOfAPlace, emptied}
 use Rattle.window.specs.declared.Move.{Move}
-use Rattle.window.proofs.Ring.{length-emptied, emptied-last}
+use Rattle.ring.proofs.Ring.{length-emptied, emptied-last}
 use Rattle.places.specs.Place.{highestAt}
 use Rattle.place_window.specs.Window.{cellIndex, newestEmptied, opened, updated, movedBy, continued}
 

@@ -7,7 +7,7 @@ use lib.ListN.{getD, set}
 use Rattle.lists.specs.declared.Found.{Found}
 use Rattle.refusal.specs.declared.Refusal.{Refusal}
 use Rattle.window.specs.Number.{moveOf}
-use Rattle.window.specs.Ring.{cellsOfAPlace, slot, emptied}
+use Rattle.ring.specs.Ring.{cellsOfAPlace, slot, emptied}
 use Rattle.window.specs.declared.Move.{Move}
 use Rattle.places.specs.Place.{placeWord, highestAt, freeOf}
 use Rattle.places.specs.After.{StoreAfter, storeAfter}

@@ -3,13 +3,13 @@
 ghost use mathlib.Core.Path.{_≡_};
 ghost use Prim.Native.Nat.{_+_, _*_, _^_, _≤_, _<_};
 ghost use lib.ListN.{set};
-ghost use Rattle.window.specs.Ring.{cellsOfAPlace};
+ghost use Rattle.ring.specs.Ring.{cellsOfAPlace};
 ghost use Rattle.places.specs.Place.{placeWord};
 ghost use Rattle.places.specs.Shape.{Ready};
 ghost use Rattle.place_window.specs.Window.{cellIndex, opened};
 use places::HELD;
 use places::SSRC_UNIT;
-use window::CELLS_OF_A_PLACE;
+use ring::CELLS_OF_A_PLACE;
 
 // Where the cell of a number of the place p stands.
 pub fn cell_index(p: usize, number: u16) -> usize
@@ -38,7 +38,7 @@ pub fn open_window(
 {
     let at = cell_index(p, number);
     let first = (number as usize) + (CELLS_OF_A_PLACE + 1) - n;
-    window::empty_run(cells, CELLS_OF_A_PLACE * p, first, n - 1);
+    ring::empty_run(cells, CELLS_OF_A_PLACE * p, first, n - 1);
     cells[at] = word;
     places[p] = HELD + SSRC_UNIT * (ssrc as u64) + (number as u64);
 }

@@ -11,7 +11,7 @@ use Rattle.lists.specs.declared.Found.the-variants.{At}
 use Rattle.lists.proofs.First.{first-below}
 use Rattle.places.specs.Place.{findOf, freeOf}
 use Rattle.places.specs.Shape.{shaped, Shaped, Misshapen, none, tooMany, disagree, Ready, mostPlaces}
-use Rattle.window.specs.Ring.{cellsOfAPlace}
+use Rattle.ring.specs.Ring.{cellsOfAPlace}
 
 module _ (places cells : List ℕ) where
   pub shaped-none : length places ≡ 0 → shaped places cells ≡ false

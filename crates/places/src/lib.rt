@@ -5,7 +5,7 @@ ghost use lib.ListN.{length};
 ghost use Rattle.places.specs.Place.{highestAt, readPlace, findOf, freeOf};
 ghost use Rattle.places.specs.Shape.{shaped};
 use lists::Found;
-use window::CELLS_OF_A_PLACE;
+use ring::CELLS_OF_A_PLACE;
 
 pub const MOST_PLACES: usize = 16;
 

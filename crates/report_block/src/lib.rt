@@ -4,7 +4,7 @@ ghost use mathlib.Core.List.{map};
 ghost use Prim.Native.Nat.{_+_, _*_, _≤_};
 ghost use lib.ListN.{length};
 ghost use lib.Seq.{sets};
-ghost use Rattle.window.specs.Ring.{cellsOfAPlace};
+ghost use Rattle.ring.specs.Ring.{cellsOfAPlace};
 ghost use Rattle.store.specs.Store.{cellMetric};
 ghost use Rattle.packet.specs.Sizes.{blockOctets};
 ghost use Rattle.packet.specs.Packet.{encodeMetrics, encodeBlock};

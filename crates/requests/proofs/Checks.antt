@@ -14,7 +14,7 @@ use Rattle.lists.specs.declared.Found.{Found}
 use Rattle.lists.proofs.Cases.{never}
 use Rattle.refusal.specs.declared.Refusal.{Refusal}
 use Rattle.window.specs.Number.{distanceOf}
-use Rattle.window.specs.Ring.{cellsOfAPlace}
+use Rattle.ring.specs.Ring.{cellsOfAPlace}
 use Rattle.places.specs.Place.{findOf, highestAt}
 use Rattle.cutting.specs.Cutting.{streamOf}
 use Rattle.cutting.specs.declared.Request.{Request}

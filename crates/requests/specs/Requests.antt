@@ -5,7 +5,7 @@ use mathlib.Core.List.{List, [], _∷_, _++_}
 use lib.Dec.{eqb, ltb, leb}
 use Rattle.lists.specs.declared.Found.{Found}
 use Rattle.window.specs.Number.{distanceOf}
-use Rattle.window.specs.Ring.{cellsOfAPlace}
+use Rattle.ring.specs.Ring.{cellsOfAPlace}
 use Rattle.places.specs.Place.{findOf, highestAt}
 use Rattle.cutting.specs.declared.Request.{Request}
 use Rattle.requests.specs.declared.Checked.{Checked}

@@ -9,7 +9,7 @@ use cutting::MOST_REQUESTS;
 use cutting::Request;
 use lists::Found;
 use refusal::Refusal;
-use window::CELLS_OF_A_PLACE;
+use ring::CELLS_OF_A_PLACE;
 
 // What checking a request finds: the place of its stream, or what is wrong.
 pub enum Checked {

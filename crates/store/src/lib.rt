@@ -3,7 +3,7 @@
 ghost use mathlib.Core.Path.{_≡_};
 ghost use Prim.Native.Nat.{_+_, _*_, _≤_};
 ghost use lib.ListN.{length};
-ghost use Rattle.window.specs.Ring.{cellsOfAPlace};
+ghost use Rattle.ring.specs.Ring.{cellsOfAPlace};
 ghost use Rattle.places.specs.After.{placesAfter};
 ghost use Rattle.store.specs.Store.{forgotten, placeOf, cellMetric};
 use lists::Found;

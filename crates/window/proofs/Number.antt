@@ -8,7 +8,7 @@ use borrow.Author.Tests.{lt-ltb, le-ltb, le-leb, lt-leb, eq-eqb, ne-eqb}
 use lib.Dec.{ltb}
 use Rattle.lists.proofs.Cases.{never}
 use Rattle.window.specs.Number.{distanceOf, moveOf, farthestAhead}
-use Rattle.window.specs.Ring.{cellsOfAPlace}
+use Rattle.ring.specs.Ring.{cellsOfAPlace}
 use Rattle.window.specs.declared.Move.the-variants.{Ahead, Within, TooOld}
 
 module _ (highest number : ℕ) where

@@ -1,3 +1,1 @@
 pub mod Number
-pub mod Ring
-pub mod Steps

@@ -2,7 +2,7 @@
 use Prim.Native.Nat.{ℕ, _+_, _-_, _%_, _^_}
 use mathlib.Core.Bool.{Bool, cond, false}
 use lib.Dec.{eqb, ltb, leb}
-use Rattle.window.specs.Ring.{cellsOfAPlace}
+use Rattle.ring.specs.Ring.{cellsOfAPlace}
 use Rattle.window.specs.declared.Move.{Move}
 use Rattle.window.specs.declared.Move.the-variants.{Ahead, Within, TooOld}
 

@@ -13,7 +13,7 @@ use Rattle.lists.specs.declared.Found.{Found}
 use Rattle.lists.proofs.Cases.{never, split-le}
 use Rattle.refusal.specs.declared.Refusal.{Refusal}
 use Rattle.window.specs.Number.{distanceOf}
-use Rattle.window.specs.Ring.{cellsOfAPlace}
+use Rattle.ring.specs.Ring.{cellsOfAPlace}
 use Rattle.places.specs.Place.{findOf, highestAt}
 use Rattle.places.proofs.Held.{lost-unheld, held-found, unheld-lost, found-held}
 use Rattle.cutting.specs.Cutting.{DifferentStreams}

@@ -9,7 +9,7 @@ use Rattle.metric.specs.Metric.{ageOf, longestAge, afterRts, atoOfAge, markUnit
 use Rattle.metric.specs.declared.Cell.{Cell}
 use Rattle.metric.proofs.Table.{after-row, over-row, else-row}
 use Rattle.window.specs.Number.{sequenceNumbers}
-use Rattle.window.specs.Ring.{cellsOfAPlace}
+use Rattle.ring.specs.Ring.{cellsOfAPlace}
 use Rattle.places.specs.Place.{findOf}
 use Rattle.place_window.specs.Window.{cellAt}
 use Rattle.cells.specs.Cell.{readCell}

@@ -7,7 +7,7 @@ use mathlib.Core.List.{List, [], _∷_, _++_}
 use lib.ListN.{length}
 use Rattle.refusal.specs.declared.Refusal.{Refusal}
 use Rattle.window.specs.Number.{distanceOf}
-use Rattle.window.specs.Ring.{cellsOfAPlace}
+use Rattle.ring.specs.Ring.{cellsOfAPlace}
 use Rattle.places.specs.Shape.{Shaped, Misshapen}
 use Rattle.places.specs.Held.{Unheld, HeldAt}
 use Rattle.cutting.specs.Limits.{leastLimit, mostLimit, mostRequests}

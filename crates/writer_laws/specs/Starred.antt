@@ -3,7 +3,7 @@ use mathlib.Core.List.{List, [], _∷_, map}
 use Prim.Native.Nat.{ℕ, _*_}
 use lib.ListN.{length, take, replicate}
 use Rattle.octets.specs.Output.{OutputAfter}
-use Rattle.window.specs.Ring.{cellsOfAPlace}
+use Rattle.ring.specs.Ring.{cellsOfAPlace}
 use Rattle.places.specs.Place.{placeWord}
 use Rattle.cutting.specs.declared.Request.{Request}
 use Rattle.writer.specs.declared.Answer.{Answer}

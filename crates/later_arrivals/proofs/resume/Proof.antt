@@ -3,7 +3,7 @@ use Prim.Native.Nat.{min}
 use mathlib.Core.Path.{_≡_, sym, _∙_}
 use native.Mathlib.Omega.{arith}
 use Rattle.window.specs.Number.{moveOf}
-use Rattle.window.specs.Ring.{cellsOfAPlace}
+use Rattle.ring.specs.Ring.{cellsOfAPlace}
 use Rattle.window.proofs.Number.{ahead-is}
 use Rattle.places.specs.Place.{highestAt}
 use Rattle.place_window.proofs.Moving.{continued-by}

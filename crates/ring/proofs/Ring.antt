@@ -7,8 +7,8 @@ use native.Mathlib.Nat.{not-suc-le-zero}
 use native.Mathlib.Decide.{ℕ-discrete, decLt}
 use lib.ListN.{length, getD, set, length-set}
 use lib.Seq.{getD-set-same, getD-set-other, set-out}
-use Rattle.window.specs.Ring.{emptied, cellsOfAPlace}
-use Rattle.window.specs.Steps.{cleared}
+use Rattle.ring.specs.Ring.{emptied, cellsOfAPlace}
+use Rattle.ring.specs.Steps.{cleared}
 
 pub emptied-more : (words : List ℕ) (base s n : ℕ) → 0 < n → emptied words base s n ≡ emptied (set words (base + s % cellsOfAPlace) 0) base (s + 1) (n - 1)
 unfolding emptied

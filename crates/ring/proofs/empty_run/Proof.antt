@@ -1,14 +1,14 @@
--- `window::empty_run` meets its contract. Assumes nothing.
+-- `ring::empty_run` meets its contract. Assumes nothing.
 use Prim.Native.Nat.{ℕ, _-_, _%_}
 use mathlib.Core.List.{List}
 use mathlib.Core.Path.{sym, ap, _∙_}
 use native.Mathlib.Omega.{arith}
 use borrow.Author.Needs.{needs}
-use Rattle.window.specs.Steps.{cleared}
-use Rattle.window.proofs.Ring.{emptied-run, emptied-wrapped}
-use Rattle.window.specs.Ring.{cellsOfAPlace}
-use Rattle.window.proofs.empty_run.Statement.{statement}
-use Rattle.window.proofs.empty_run.Tie as tie
+use Rattle.ring.specs.Steps.{cleared}
+use Rattle.ring.proofs.Ring.{emptied-run, emptied-wrapped}
+use Rattle.ring.specs.Ring.{cellsOfAPlace}
+use Rattle.ring.proofs.empty_run.Statement.{statement}
+use Rattle.ring.proofs.empty_run.Tie as tie
 
 returns : tie.Need-returns
 returns c = c .before .before .clear .ensures ∙ sym (emptied-run _ _ _ _ (search needs))

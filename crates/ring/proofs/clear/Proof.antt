@@ -1,4 +1,4 @@
--- `window::clear` meets its contract. The invariant: what is left to do, done to the words as they are, gives what the
+-- `ring::clear` meets its contract. The invariant: what is left to do, done to the words as they are, gives what the
 -- whole did to the words at entry. Assumes nothing.
 use Prim.Native.Nat.{_+_, _-_, _≤_}
 use mathlib.Core.Path.{_≡_, refl, sym, _∙_}
@@ -6,10 +6,10 @@ use native.Mathlib.Omega.{arith}
 use native.Mathlib.Nat.{add-zero, sub-zero}
 use borrow.Author.Needs.{needs}
 use lib.ListN.{length, length-set}
-use Rattle.window.specs.Steps.{cleared}
-use Rattle.window.proofs.Ring.{cleared-next, cleared-none}
-use Rattle.window.proofs.clear.Statement.{statement}
-use Rattle.window.proofs.clear.Tie as tie
+use Rattle.ring.specs.Steps.{cleared}
+use Rattle.ring.proofs.Ring.{cleared-next, cleared-none}
+use Rattle.ring.proofs.clear.Statement.{statement}
+use Rattle.ring.proofs.clear.Tie as tie
 
 abbrev Inv-loop : tie.InvT-loop
 Inv-loop words₀ start count i₀ words i =
