@@ -1,5 +1,5 @@
-// The 16-bit metric of a sequence number: R, 2 bits ECN mark, 13 bits arrival time offset (ATO). What all that encode and
-// decode it share.
+// The 16-bit metric of a sequence number: R, 2 bits ECN mark, 13 bits arrival time offset (ATO). What its encoding and
+// its decoding share.
 ghost use mathlib.Core.Path.{_≡_};
 ghost use Prim.Native.Nat.{_<_};
 ghost use Rattle.metric.specs.Metric.{timeOf, markUnit, assembledOf};

@@ -1,5 +1,4 @@
-// The window of a place, over any word of a cell: a ring of words, where a number's word stands in it, and how the window
-// moves on.
+// The window of a place, over any word of a cell: where a number's cell stands in the ring, and how the window moves on.
 ghost use mathlib.Core.Path.{_≡_};
 ghost use Prim.Native.Nat.{_+_, _*_, _^_, _≤_, _<_};
 ghost use lib.ListN.{set};

@@ -1,4 +1,4 @@
--- The store of arrivals: each call, as its answer and the store that it leaves, of any lent content.
+-- What is asked of a store besides arrivals: each call, as its answer and what it leaves, of any lent content.
 use Prim.Native.Nat.{ℕ}
 use mathlib.Core.Bool.{cond}
 use mathlib.Core.List.{List}

@@ -1,5 +1,4 @@
-// What is asked of a store of arrivals, two lent slices: forgetting a stream, which stream a place holds, and the metric of
-// a number.
+// What is asked of a store besides arrivals: to forget a stream, which stream a place holds, and the metric of a number.
 ghost use mathlib.Core.Path.{_≡_};
 ghost use Prim.Native.Nat.{_+_, _*_, _≤_};
 ghost use lib.ListN.{length};
