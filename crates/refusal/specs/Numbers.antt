@@ -1,7 +1,10 @@
 -- The number of each refusal, as a caller is given it. 0 is no refusal; 15 to 20 are not used.
 use Prim.Native.Nat.{ℕ}
 use Rattle.refusal.specs.declared.Refusal.{Refusal}
-use Rattle.refusal.specs.declared.Refusal.the-variants.{BadMark, NoFreePlace, TooOld, BadStore, NotHeld, BadLimit, TooManyRequests, StreamRepeated, BadRange, OutputTooShort, BadFileMark, BadFileVersion, RecordCutShort, BadRecord, PacketTooShort, BadVersion, BadType, BadLength, Padded, RunsIntoRts, TooManyReports, FillerNotZero, NoBlock, NoNumber}
+use Rattle.refusal.specs.declared.Refusal.the-variants.{BadMark, NoFreePlace, TooOld, BadStore, NotHeld}
+use Rattle.refusal.specs.declared.Refusal.the-variants.{BadLimit, TooManyRequests, StreamRepeated, BadRange, OutputTooShort}
+use Rattle.refusal.specs.declared.Refusal.the-variants.{BadFileMark, BadFileVersion, RecordCutShort, BadRecord}
+use Rattle.refusal.specs.declared.Refusal.the-variants.{PacketTooShort, BadVersion, BadType, BadLength, Padded, RunsIntoRts, TooManyReports, FillerNotZero, NoBlock, NoNumber}
 
 abbrev pub numberOf : Refusal → ℕ
 -- arrivals and the store

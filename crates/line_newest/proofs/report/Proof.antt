@@ -65,16 +65,18 @@ loop-again c =
 
 -- after the loop the requests are those for all places
 asked : (c : tie.After-loop Inv-loop μ-loop)
-    → let after-shared-slice-known2 = c .before .before .before .before .before in
+    → let at-loop = c .before in
+    let after-shared-slice-known2 = at-loop .before .before .before .before in
     let args = after-shared-slice-known2 .before .before .args in
-    take (c .before .loop .n) (c .before .loop .requests) ≡ newest (args .places .now)
+    take (at-loop .loop .n) (at-loop .loop .requests) ≡ newest (args .places .now)
 asked c =
     let l = c .before .loop in
     gather-all _ (l .requests) (l .n) (l .i) _ (c .loop-test .left) (l .inv .4)
 
 put-report-requires : tie.Need-put-report-requires Inv-loop μ-loop
 put-report-requires c κs =
-    let after-shared-slice-known2 = c .before .before .before .before .before .before in
+    let at-loop = c .before .before in
+    let after-shared-slice-known2 = at-loop .before .before .before .before in
     let start = after-shared-slice-known2 .before .before in
     (omega arith, (rw (asked (c .before)) (newest-four (start .args .places .now)), start .pre))
 
