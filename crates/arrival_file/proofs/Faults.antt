@@ -12,7 +12,8 @@ use Rattle.refusal.specs.declared.Refusal.the-variants.{RecordCutShort, BadReco
 use Rattle.lists.proofs.Cases.{never, split-le, split-eq}
 use Rattle.octets.specs.Octets.{be16, be32}
 use Rattle.metric.specs.Metric.{congested}
-use Rattle.arrival_record.specs.Record.{isFaulty, recordOf, recordOctets}
+use Rattle.record_fault.specs.Fault.{isFaulty}
+use Rattle.arrival_record.specs.Record.{recordOf, recordOctets}
 use Rattle.arrival_record.specs.declared.Record.{Record}
 use Rattle.arrival_record.proofs.Cases.{bad-record, sound-record}
 use Rattle.arrival_file.specs.File.{Result, sound, faulty, recordFirst, recordsOf, fileOf, fileHeaderOctets, fileVersion}

@@ -10,7 +10,8 @@ use Rattle.refusal.specs.declared.Refusal.the-variants.{RecordCutShort, BadReco
 use Rattle.octets.specs.Octets.{be16, be32}
 use Rattle.metric.specs.Metric.{timeOf}
 use Rattle.metric.specs.declared.Time.{Time}
-use Rattle.arrival_record.specs.Record.{isFaulty, recordOf, recordReadOf, recordOctets}
+use Rattle.record_fault.specs.Fault.{isFaulty}
+use Rattle.arrival_record.specs.Record.{recordOf, recordReadOf, recordOctets}
 use Rattle.arrival_record.specs.declared.RecordRead.the-variants.{Record, Refused}
 
 module _ (s : List ℕ) where

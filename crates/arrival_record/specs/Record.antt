@@ -2,12 +2,13 @@
 --   4 octets SSRC, 2 octets sequence number, 1 octet ECN mark, 1 octet flag, 4 octets time
 -- The flag is 1 where the time is known; where it is not, flag and time are 0.
 use Prim.Native.Nat.{ℕ}
-use mathlib.Core.Bool.{Bool, cond, not, _&&_, _||_}
+use mathlib.Core.Bool.{cond, not}
 use mathlib.Core.List.{List}
 use lib.ListN.{length, getD}
 use lib.Dec.{eqb, ltb}
 use Rattle.octets.specs.Octets.{be16, be32}
-use Rattle.metric.specs.Metric.{congested, timeOf}
+use Rattle.metric.specs.Metric.{timeOf}
+use Rattle.record_fault.specs.Fault.{isFaulty}
 use Rattle.arrival_record.specs.declared.Record.{Record}
 use Rattle.arrival_record.specs.declared.RecordRead.{RecordRead}
 use Rattle.refusal.specs.declared.Refusal.the-variants.{RecordCutShort, BadRecord}
@@ -15,10 +16,6 @@ use Rattle.arrival_record.specs.declared.RecordRead.the-variants as entr
 
 abbrev pub recordOctets : ℕ
 recordOctets = 12
-
--- a mark above 3, a flag above 1, or a time where the flag says that there is none
-unfoldable pub isFaulty : ℕ → ℕ → ℕ → Bool
-isFaulty mark flag time = ltb congested mark || (ltb 1 flag || (eqb flag 0 && not (eqb time 0)))
 
 -- the record at the front of some octets
 abbrev pub recordOf : List ℕ → Record

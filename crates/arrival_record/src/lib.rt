@@ -1,7 +1,6 @@
 // A record of the arrival file: one arrival in 12 octets.
 ghost use mathlib.Core.Path.{_≡_};
-ghost use Rattle.arrival_record.specs.Record.{isFaulty, recordReadOf};
-use metric::CONGESTED;
+ghost use Rattle.arrival_record.specs.Record.{recordReadOf};
 use metric::Time;
 use refusal::Refusal;
 
@@ -21,22 +20,6 @@ pub enum RecordRead {
     Refused(Refusal),
 }
 
-// A mark above 3, a flag above 1, or a time where the flag says that there is none.
-fn is_faulty(mark: u8, flag: u8, time: u32) -> bool
-    ensures value { λ r. ⌜ r ≡ isFaulty mark flag time ⌝ }
-{
-    if CONGESTED < mark {
-        return true;
-    }
-    if 1 < flag {
-        return true;
-    }
-    if flag == 1 {
-        return false;
-    }
-    time != 0
-}
-
 // The record at the front of some octets of a file (SSRC 4 octets, number 2, mark 1, time-known flag 1, time 4):
 // refusals 13, 14.
 pub fn read_record(s: &[u8]) -> RecordRead
@@ -48,7 +31,7 @@ pub fn read_record(s: &[u8]) -> RecordRead
     let mark = s[6];
     let flag = s[7];
     let time = octets::get32(s, 8);
-    let faulty = is_faulty(mark, flag, time);
+    let faulty = record_fault::is_faulty(mark, flag, time);
     if faulty {
         return RecordRead::Refused(Refusal::BadRecord);
     }

@@ -1,21 +1,17 @@
 -- The reader's answers about block k, from what the code's steps have found. Assumes nothing.
 use Prim.Native.Nat.{ℕ, zero, suc, _-_}
 use mathlib.Core.Path.{_≡_, refl, sym, ap, _∙_}
-use mathlib.Core.List.{List, [], _∷_}
+use mathlib.Core.List.{List}
 use native.Mathlib.Omega.{arith}
-use Rattle.lists.specs.All.{All}
 use Rattle.lists.proofs.Cases.{never}
 use Rattle.refusal.specs.declared.Refusal.{Refusal}
-use Rattle.walk.specs.Walk.{stepAt, Walked, walked, stopped, inFront, onward, walkFrom, walkOf}
+use Rattle.walk.specs.Walk.{stepAt, Walked, walked, stopped, inFront, onward, walkFrom}
 use Rattle.walk.specs.declared.ReportBlock.{ReportBlock}
-use Rattle.walk.specs.declared.Cursor.{Cursor}
+use Rattle.header.specs.declared.Cursor.{Cursor}
 use Rattle.walk.specs.declared.Step.{Step}
-use Rattle.walk.proofs.Steps.{found}
-use Rattle.walk.proofs.Walks.{walk-step, walk-ind}
-use Rattle.reports.specs.Reports.{Within}
+use Rattle.walk.proofs.Walks.{walk-step}
 use Rattle.reader.specs.Steps.{counted}
 use Rattle.reader.specs.declared.Count.{Count}
-use Rattle.reader.proofs.Answers.{walked-sound}
 use Rattle.block_reader.specs.Blocks.{nth, located}
 use Rattle.block_reader.specs.Steps.{pastBlock, afterBlocks}
 use Rattle.block_reader.specs.declared.BlockAnswer.{BlockAnswer}
@@ -108,22 +104,3 @@ module _ (s : List ℕ) where
     pub block-refused : (y : Refusal) → x ≡ Refused y → answer.Refused y ≡ located (walkFrom s at) k
     unfolding answer-at
     block-refused y e = sym (located-after k at ∙ rw (← is, e))
-
-  -- ---- the metrics of block k
-
-  pub within : (at : ℕ) (b : ReportBlock) (next : Cursor) → stepAt s at ≡ Block b next → Within s b
-  within at b next e = let f = found s at b next e in rw (f .is) (record { room = omega (arith, f .room) })
-
-  nth-within : (bs : List ReportBlock) (k : ℕ) (b : ReportBlock) → All (Within s) bs → nth bs k ≡ answer.Found b → Within s b
-  nth-within [] k b a e = never (cc)
-  nth-within (x ∷ bs) zero b a e = let z : x ≡ b = cc in rw z at (a .0)
-  nth-within (x ∷ bs) (suc k) b a e = nth-within bs k b (a .1) e
-
-  pub located-within : (k : ℕ) (b : ReportBlock) → located (walkOf s) k ≡ answer.Found b → Within s b
-  located-within k b e = by-walk (walkOf s) refl e
-    where
-      by-walk : (w : Walked) → walkOf s ≡ w → located w k ≡ answer.Found b → Within s b
-      by-walk (walked bs) f h =
-          nth-within bs k b
-          (walk-ind s (λ at bs. All (Within s) bs) (λ at h. tt) (λ at b next bs f r. (within at b next f, r)) 8 bs (walked-sound s bs f .1)) h
-      by-walk (stopped x) f h = never (cc)

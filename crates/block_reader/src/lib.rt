@@ -1,15 +1,14 @@
-// The reader's answers about a block of a packet: block k, its metrics, and metric j of it. As the reader of the whole
-// packet it accepts any octets, and answers or gives the first refusal.
+// The reader's answer about block k of a packet. As the reader of the whole packet it accepts any octets, and answers or
+// gives the first refusal.
 ghost use mathlib.Core.Path.{_≡_};
 ghost use Rattle.walk.specs.Walk.{walkFrom};
-ghost use Rattle.block_reader.specs.Blocks.{located, readBlock, metricsPart, readMetric};
+ghost use Rattle.block_reader.specs.Blocks.{located, readBlock};
 ghost use Rattle.block_reader.specs.Steps.{afterBlocks};
+use header::Cursor;
+use header::Start;
 use reader::Count;
 use refusal::Refusal;
-use reports::MetricAnswer;
-use walk::Cursor;
 use walk::ReportBlock;
-use walk::Start;
 use walk::Step;
 
 // The answer about block k.
@@ -25,7 +24,7 @@ fn after_blocks(packet: &[u8], from: Cursor, k: usize) -> Step
     let mut cursor = from;
     let mut left = k;
     loop {
-        let here = cursor.next(packet);
+        let here = walk::next(cursor, packet);
         if left == 0 {
             return here;
         }
@@ -62,31 +61,9 @@ fn block_from(packet: &[u8], from: Cursor, k: usize) -> BlockAnswer
 pub fn block(packet: &[u8], k: usize) -> BlockAnswer
     ensures value { λ r. ⌜ r ≡ readBlock (now (packet .entry)) k ⌝ }
 {
-    let first = Cursor::start(packet);
+    let first = header::read_header(packet);
     match first {
         Start::At(cursor) => block_from(packet, cursor, k),
         Start::Refused(e) => BlockAnswer::Refused(e),
-    }
-}
-
-// The part of the packet that holds the metrics of block k; empty where the block is refused.
-pub fn block_metrics<'a>(packet: &'a [u8], k: usize) -> &'a [u8]
-    ensures part { λ r. ⌜ now r ≡ metricsPart (readBlock (now (packet .entry)) k) (now (packet .entry)) ⌝ }
-{
-    let answer = block(packet, k);
-    match answer {
-        BlockAnswer::Found(b) => reports::metrics_of(packet, b),
-        BlockAnswer::Refused(_) => &packet[..0],
-    }
-}
-
-// Metric j, from 0, of block k.
-pub fn metric(packet: &[u8], k: usize, j: usize) -> MetricAnswer
-    ensures value { λ r. ⌜ r ≡ readMetric (now (packet .entry)) k j ⌝ }
-{
-    let answer = block(packet, k);
-    match answer {
-        BlockAnswer::Found(b) => reports::metric_in(packet, b, j),
-        BlockAnswer::Refused(e) => MetricAnswer::Refused(e),
     }
 }

@@ -4,7 +4,7 @@ use Prim.Native.Nat.{ℕ}
 use mathlib.Core.List.{List, [], _∷_, _++_, map}
 use Rattle.lists.specs.declared.Found.{Found}
 use Rattle.places.specs.Place.{findOf}
-use Rattle.store.specs.Store.{cellMetric}
+use Rattle.cell_metrics.specs.Metrics.{cellMetric}
 use Rattle.cutting.specs.Cutting.{CutBlock, CutPacket, numbersFrom, streamOf}
 use Rattle.cutting.specs.Plan.{plan}
 use Rattle.cutting.specs.declared.Request.{Request}

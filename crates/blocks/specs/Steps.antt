@@ -6,7 +6,7 @@ use Prim.Native.Nat.{ℕ, _+_, _-_, _*_, _≤_, _<_}
 use lib.ListN.{length, drop, getD}
 use lib.Seq.{sets}
 use Rattle.ring.specs.Ring.{cellsOfAPlace}
-use Rattle.store.specs.Store.{cellMetric}
+use Rattle.cell_metrics.specs.Metrics.{cellMetric}
 use Rattle.packet.specs.Packet.{encodeBlocks, encodePacket}
 use Rattle.packet.specs.Sizes.{blocksOctets, packetFrame, packetOctets, packetHeaderOctets}
 use Rattle.cutting.specs.Cutting.{CutBlock, wholeBlocks, counts}

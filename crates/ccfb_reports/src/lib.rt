@@ -1,7 +1,8 @@
 // The calls for C that read the reports of block k of a packet: where its metrics are, and metric j.
 ghost use mathlib.Core.Path.{_≡_};
 ghost use mathlib.Core.List.{[], _∷_};
-ghost use Rattle.block_reader.specs.Blocks.{readBlock, readMetric};
+ghost use Rattle.block_reader.specs.Blocks.{readBlock};
+ghost use Rattle.metric_reader.specs.Metrics.{readMetric};
 ghost use Rattle.ccfb_calls.specs.Called.{called};
 ghost use Rattle.ccfb_reports.specs.Reports.{partCalled, metricCalled};
 use block_reader::BlockAnswer;
@@ -51,7 +52,7 @@ pub extern "C" fn ccfb_metric(
         ≡ metricCalled (readMetric (now (packet .entry)) k j)
         (now (number .entry)) (now (case .entry)) (now (mark .entry)) (now (offset .entry)) ⌝ }
 {
-    let answer = block_reader::metric(packet, k, j);
+    let answer = metric_reader::metric(packet, k, j);
     match answer {
         MetricAnswer::Reported {
             number: n,

@@ -1,14 +1,15 @@
 // The calls for C that walk over the blocks of a packet, and over the metrics of a block: each takes one step.
 ghost use mathlib.Core.Path.{_≡_};
 ghost use mathlib.Core.List.{[], _∷_};
-ghost use Rattle.walk.specs.Walk.{startOf, stepAt};
-ghost use Rattle.reports.specs.Reports.{caseAt};
+ghost use Rattle.header.specs.Header.{startOf};
+ghost use Rattle.walk.specs.Walk.{stepAt};
+ghost use Rattle.metric_part.specs.Part.{caseAt};
 ghost use Rattle.ccfb_calls.specs.Called.{called};
 ghost use Rattle.ccfb_walk.specs.Walk.{metricAtCalled, firstCalled, nextCalled};
+use header::Cursor;
+use header::Start;
+use metric_part::PartAnswer;
 use refusal::Refusal;
-use reports::PartAnswer;
-use walk::Cursor;
-use walk::Start;
 use walk::Step;
 
 // The offset of the first block, for ccfb_next_block. Refusals 21 to 25.
@@ -17,7 +18,7 @@ pub extern "C" fn ccfb_first_block(packet: &[u8], at: &mut usize) -> u8
     ensures after { λ r. ⌜
         called r (now (at .exit) ∷ []) ≡ firstCalled (startOf (now (packet .entry))) (now (at .entry) ∷ []) ⌝ }
 {
-    let first = Cursor::start(packet);
+    let first = header::read_header(packet);
     match first {
         Start::At(c) => {
             *at = c.at;
@@ -44,7 +45,7 @@ pub extern "C" fn ccfb_next_block(
         (now (at .entry) ∷ now (ssrc .entry) ∷ now (begin .entry) ∷ now (count .entry) ∷ now («metrics_at» .entry) ∷ []) ⌝ }
 {
     let cursor = Cursor { at: *at };
-    let here = cursor.next(packet);
+    let here = walk::next(cursor, packet);
     match here {
         Step::Block(block, next) => {
             *at = next.at;
@@ -73,7 +74,7 @@ pub extern "C" fn ccfb_metric_at(
         ≡ metricAtCalled (caseAt (now (part .entry)) j)
         (now (case .entry)) (now (mark .entry)) (now (offset .entry)) ⌝ }
 {
-    let answer = reports::metric_at(part, j);
+    let answer = metric_part::metric_at(part, j);
     match answer {
         PartAnswer::Case(m) => {
             *case = ccfb_calls::put_case(m, mark, offset);

@@ -4,8 +4,8 @@ use Prim.Native.Nat.{ℕ}
 use mathlib.Core.List.{List}
 use Rattle.refusal.specs.Numbers.{numberOf}
 use Rattle.octets.specs.Output.{OutputAfter}
-use Rattle.writer.specs.declared.Answer.{Answer}
-use Rattle.writer.specs.declared.Answer.the-variants.{Written, Refused}
+use Rattle.sound_writer.specs.declared.Answer.{Answer}
+use Rattle.sound_writer.specs.declared.Answer.the-variants.{Written, Refused}
 
 -- `ccfb_write`: the answer, the packets and octets written, and the output
 pub record Wrote : Type 0 where

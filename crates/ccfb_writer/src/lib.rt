@@ -6,7 +6,7 @@ ghost use Rattle.writer.specs.Written.{written};
 ghost use Rattle.ccfb_writer.specs.Writing.{wrote, writeCalled};
 use cutting::MOST_REQUESTS;
 use cutting::Request;
-use writer::Answer;
+use sound_writer::Answer;
 
 // Reports on the first n requests of an array, as `ccfb_write` does on a list.
 pub fn write_array<'a>(

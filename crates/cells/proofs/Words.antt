@@ -1,12 +1,12 @@
--- What an arrival makes of a word, and the metric of a word. Assumes nothing.
+-- What an arrival makes of a word. Assumes nothing.
 use Prim.Native.Nat.{ℕ, _+_, _*_, _/_, _%_, _<_, _≤_}
 use mathlib.Core.Path.{_≡_}
 use native.Mathlib.Omega.{arith}
 use native.Mathlib.Decide.{ℕ-discrete}
 use borrow.Author.Tests.{lt-ltb, le-ltb, eq-eqb, ne-eqb}
-use Rattle.metric.specs.Metric.{times, encodeOf, ageOf, atoOfAge, noTime, assembledOf, congested}
+use Rattle.metric.specs.Metric.{congested}
 use Rattle.metric.specs.declared.Time.{Time}
-use Rattle.cells.specs.Cell.{kinds, leastFilled, leastTimed, wordTime, readCell, filledWord, foldedMark, wordAfter}
+use Rattle.cells.specs.Cell.{kinds, leastFilled, filledWord, foldedMark, wordAfter}
 
 -- a mark of two bits stays one
 pub folded-small : (held copy : ℕ) → held < 4 → foldedMark held copy < 4
@@ -22,16 +22,3 @@ module _ (word mark : ℕ) (time : Time) where
   pub after-filled : leastFilled ≤ word % kinds → wordAfter mark time word ≡ word / 4 * 4 + foldedMark (word % 4) mark
   unfolding wordAfter
   after-filled l = simp (le-ltb (word % kinds) leastFilled l)
-
-module _ (word rts : ℕ) where
-  pub metric-empty : word % kinds < leastFilled → encodeOf (readCell word) rts ≡ 0
-  unfolding readCell
-  metric-empty h = rw (lt-ltb (word % kinds) leastFilled h)
-
-  pub metric-untimed : leastFilled ≤ word % kinds → word % kinds < leastTimed → encodeOf (readCell word) rts ≡ assembledOf (word % 4) noTime
-  unfolding readCell wordTime
-  metric-untimed h k = rw (le-ltb (word % kinds) leastFilled h, lt-ltb (word % kinds) leastTimed k)
-
-  pub metric-timed : leastTimed ≤ word % kinds → encodeOf (readCell word) rts ≡ assembledOf (word % 4) (atoOfAge (ageOf rts (word / kinds % times)))
-  unfolding readCell wordTime
-  metric-timed k = rw (le-ltb (word % kinds) leastFilled (omega arith), le-ltb (word % kinds) leastTimed k)

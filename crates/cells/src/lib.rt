@@ -1,18 +1,15 @@
 // How a cell's 64-bit word stores what arrived, and how the next copy changes it.
 ghost use mathlib.Core.Path.{_≡_};
-ghost use Rattle.metric.specs.Metric.{encodeOf};
-ghost use Rattle.cells.specs.Cell.{foldedMark, filledWord, wordAfter, readCell};
+ghost use Rattle.cells.specs.Cell.{foldedMark, filledWord, wordAfter};
 use metric::CONGESTED;
-use metric::NO_TIME;
-use metric::TIMES;
 use metric::Time;
 
 // A word has one of 16 kinds: one of LEAST_FILLED or more is filled, one of LEAST_TIMED or more at a known time.
-const KINDS: u64 = 16;
+pub const KINDS: u64 = 16;
 
-const LEAST_FILLED: u64 = 8;
+pub const LEAST_FILLED: u64 = 8;
 
-const LEAST_TIMED: u64 = 12;
+pub const LEAST_TIMED: u64 = 12;
 
 // The mark of a filled cell after a copy.
 pub fn fold_mark(held: u8, copy: u8) -> u8
@@ -39,17 +36,4 @@ pub fn word_after(word: u64, mark: u8, time: Time) -> u64
         return filled_word(mark, time);
     }
     word / 4 * 4 + (fold_mark((word % 4) as u8, mark) as u64)
-}
-
-// The metric of a cell's word at RTS.
-// Branch-free on purpose: over many cells these branches are unpredictable and cost time.
-pub fn metric_of_word(word: u64, rts: u32) -> u16
-    ensures value { λ r. ⌜ r ≡ encodeOf (readCell word) rts ⌝ }
-{
-    let kind = word % KINDS;
-    let time = (word / KINDS % TIMES) as u32;
-    let timed = metric_encode::ato_of_age(metric_encode::age(rts, time));
-    let ato = if kind < LEAST_TIMED { NO_TIME } else { timed };
-    let filled = metric::assembled((word % 4) as u8, ato);
-    if kind < LEAST_FILLED { 0 } else { filled }
 }

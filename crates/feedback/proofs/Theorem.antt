@@ -32,7 +32,7 @@ use Rattle.feedback.proofs.Blocks.{each-told}
 use Rattle.lists.specs.declared.Found.the-variants.{At}
 use Rattle.places.specs.declared.Holding.the-variants.{Held}
 use Rattle.reports.specs.declared.MetricAnswer.the-variants as asked
-use Rattle.writer.specs.declared.Answer.the-variants.{Written}
+use Rattle.sound_writer.specs.declared.Answer.the-variants.{Written}
 
 module _ (st : Store) (new : Fresh st) (cs : List Call) (range : All CallInRange cs) where
   abbrev places : List ℕ

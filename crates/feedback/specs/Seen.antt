@@ -13,7 +13,8 @@ use Rattle.history.specs.Calls.{Call, Store, storeRun, storeAnswers, Accepted, 
 use Rattle.history.specs.Meaning.{topOf, entriesOf, cellBy, AsArrivals}
 use Rattle.walk.specs.Walk.{walkOf}
 use Rattle.walk.specs.declared.ReportBlock.{ReportBlock}
-use Rattle.block_reader.specs.Blocks.{located, reportedOf}
+use Rattle.block_reader.specs.Blocks.{located}
+use Rattle.metric_reader.specs.Metrics.{reportedOf}
 use Rattle.cutting.specs.declared.Request.{Request}
 use Rattle.writer_laws.specs.Read.{packetsIn, Report}
 use Rattle.block_reader.specs.declared.BlockAnswer.the-variants as answer

@@ -18,7 +18,8 @@ use Rattle.metric.specs.declared.Time.{Time}
 use Rattle.places.specs.Place.{placeAt, isStream, findOf}
 use Rattle.place_window.specs.Window.{cellAt}
 use Rattle.cells.specs.Cell.{readCell}
-use Rattle.store.specs.Store.{placeOf, cellMetric}
+use Rattle.store.specs.Store.{placeOf}
+use Rattle.cell_metrics.specs.Metrics.{cellMetric}
 use Rattle.history.specs.Calls.{Call, arrive, forget, CallAnswer, Store, storeRun, storeAnswers, Accepted, acceptedOf, isDone, heard, heardAll, CallInRange}
 use Rattle.history.specs.Meaning.{Entry, fullOf, firstFull, entryOf, countFrom, topFrom, entriesOf, topOf, AsArrivals, EntryInRange, AcceptedInRange}
 use Rattle.history.specs.Model.{Place, free, names, at, modelPlace, modelStep, modelAnswer, modelRun, modelAnswers, vacant}

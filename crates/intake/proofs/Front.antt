@@ -1,30 +1,16 @@
--- Octets that are moved to the front. Assumes nothing.
-use Prim.Native.Nat.{ℕ, suc, _+_, _-_, _<_, _≤_}
+-- What is not taken of a piece comes to the front. Assumes nothing.
+use Prim.Native.Nat.{ℕ, _-_}
 use mathlib.Core.Path.{_≡_, ap}
 use mathlib.Core.List.{List}
 use native.Mathlib.Omega.{arith}
-use native.Mathlib.Numerals.{add-one}
-use lib.ListN.{length, getD, set, drop, length-drop, drop-of-length-le}
-use lib.Seq.{sets, length-sets, drop-cons, drop-set-lt}
+use lib.ListN.{length, drop, length-drop}
+use lib.Seq.{sets, length-sets}
 use Rattle.arrival_file.specs.Pieces.{Feeding}
 use Rattle.recording.specs.declared.Taken.{Taken}
 use Rattle.recording.specs.Recorded.{Recorded}
 use Rattle.intake.specs.Intake.{intakeAfter, kept}
 use Rattle.recording.specs.Steps.{TakenTo}
 
-module _ (s : List ℕ) (from i : ℕ) (h : from + i < length s) where
-  -- what one step leaves to be moved
-  pub one-moved : sets (set s i (getD s (from + i) 0)) (i + 1) (drop (from + (i + 1)) (set s i (getD s (from + i) 0))) ≡ sets s i (drop (from + i) s)
-  one-moved =
-      let d : drop (from + (i + 1)) (set s i (getD s (from + i) 0)) ≡ drop (from + (i + 1)) s =
-      drop-set-lt (from + (i + 1)) s i (getD s (from + i) 0) (omega arith) in
-      let n : from + (i + 1) ≡ suc (from + i) = omega arith in
-      rw (d, n, add-one i, drop-cons s (from + i) 0 h)
-
-pub none-moved : (s : List ℕ) (from i : ℕ) → length s ≤ from + i → sets s i (drop (from + i) s) ≡ s
-none-moved s from i h = rw (drop-of-length-le s {i = from + i} h)
-
--- what is not taken comes to the front
 pub front-kept : (places cells s s′ : List ℕ) (t : Taken) (f : Feeding Recorded) → TakenTo places cells s t f → s′ ≡ sets s 0 (drop (t .at) s)
     → intakeAfter (record { phase = t .phase; rts = t .rts; left = length s′ - t .at }) places cells s′ ≡ kept f s
 front-kept places cells s s′ t f h e =

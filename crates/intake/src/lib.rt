@@ -1,8 +1,5 @@
 // Takes an arrival file into a store, piece by piece.
 ghost use mathlib.Core.Path.{_≡_};
-ghost use Prim.Native.Nat.{_≤_};
-ghost use lib.ListN.{length, drop};
-ghost use lib.Seq.{sets};
 ghost use Rattle.intake.specs.Intake.{atStart, intakeAfter, fedOf};
 use arrival_file::Phase;
 
@@ -25,18 +22,6 @@ pub fn start() -> Intake
     }
 }
 
-// Moves the octets that start at an offset to the front.
-fn move_to_front(s: &mut [u8], from: usize)
-    requires within { ⌜ from ≤ length (now s) ⌝ }
-    ensures content { λ _. ⌜ now (s .exit) ≡ sets (now (s .entry)) 0 (drop from (now (s .entry))) ⌝ }
-{
-    let mut i = 0;
-    while i < s.len() - from {
-        s[i] = s[from + i];
-        i += 1;
-    }
-}
-
 // Takes the next piece of a file. `octets` are those that the pieces before left, and then the piece; those that are
 // left now are moved to the front.
 pub fn feed(places: &mut [u64], cells: &mut [u64], intake: Intake, octets: &mut [u8]) -> Intake
@@ -48,7 +33,7 @@ pub fn feed(places: &mut [u64], cells: &mut [u64], intake: Intake, octets: &mut 
     let t = taking::take(places, cells, octets, before, intake.rts);
     let phase = t.phase;
     let at = t.at;
-    move_to_front(octets, at);
+    octets_move::move_to_front(octets, at);
     Intake {
         phase: phase,
         rts: t.rts,

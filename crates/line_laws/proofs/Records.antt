@@ -12,7 +12,8 @@ use Rattle.octets.specs.Octets.{be32, Octets}
 use Rattle.octets.proofs.Small.{less-32, octets-from, less-16}
 use Rattle.metric.specs.Metric.{TimeInRange, timeOf, times, congested}
 use Rattle.history.specs.Calls.{Call, arrive, CallInRange}
-use Rattle.arrival_record.specs.Record.{isFaulty, recordOf, recordReadOf, recordOctets}
+use Rattle.record_fault.specs.Fault.{isFaulty}
+use Rattle.arrival_record.specs.Record.{recordOf, recordReadOf, recordOctets}
 use Rattle.arrival_record.specs.declared.Record.{Record}
 use Rattle.arrival_record.specs.declared.RecordRead.{RecordRead}
 use Rattle.arrival_record.proofs.Cases.{cut-short, bad-record, sound-record}

@@ -19,8 +19,9 @@ use Rattle.cutting.proofs.Plan.{next-whole, filled-none, filled-by, plan-none, 
 use Rattle.requests.specs.Requests.{checked}
 use Rattle.requests.specs.declared.Verdict.{Verdict}
 use Rattle.blocks.specs.Packets.{storeMetric, reportPacket, encodePackets, packetsFor}
-use Rattle.writer.specs.declared.Answer.{Answer}
-use Rattle.writer.specs.Written.{putPackets, writingRefused, ifAllSound, written}
+use Rattle.sound_writer.specs.declared.Answer.{Answer}
+use Rattle.sound_writer.specs.Put.{putPackets, writingRefused}
+use Rattle.writer.specs.Written.{ifAllSound, written}
 use Rattle.packets.proofs.Packets.{length-report}
 use Rattle.line_hex.specs.Hex.{hexLine, putText}
 use Rattle.line_refusal.specs.Refused.{refusedLine}
@@ -31,7 +32,7 @@ use Rattle.refusal.specs.declared.Refusal.the-variants.{BadStore, BadLimit, Too
 use Rattle.packet.specs.Packet as packet
 use Rattle.cutting.specs.declared.NextBlock.the-variants.{Whole}
 use Rattle.requests.specs.declared.Verdict.the-variants.{Sound, Fault}
-use Rattle.writer.specs.declared.Answer.the-variants.{Written, Refused}
+use Rattle.sound_writer.specs.declared.Answer.the-variants.{Written, Refused}
 
 -- ---- the plan: a block of four numbers has 16 octets
 

@@ -8,7 +8,7 @@ ghost use Rattle.line_hex.specs.Hex.{putText};
 ghost use Rattle.line_report.specs.Report.{FourEach, packetRoom, lineRoom, requestedText};
 use cutting::Request;
 use places::MOST_PLACES;
-use writer::Answer;
+use sound_writer::Answer;
 
 // The SSRC of the packet's sender, and the packet's limit in octets.
 const LINE_SENDER: u32 = 0x000000F1;

@@ -8,9 +8,11 @@ use Rattle.octets.specs.Octets.{be16, be32}
 use Rattle.octets.specs.Output.{outputAfter}
 use Rattle.metric.specs.Metric.{decodeOf}
 use Rattle.packet.specs.Packet.{Packet, encodeMetrics, filler, encodeBlock, encodeBlocks, encodePacket}
-use Rattle.walk.specs.Walk.{startOf, fillerAt, stepAt, walk, walkOf}
+use Rattle.header.specs.Header.{startOf}
+use Rattle.walk.specs.Walk.{fillerAt, stepAt, walk, walkOf}
 use Rattle.reader.specs.Reading.{packet, refused, metricsAt, decodePacket}
-use Rattle.block_reader.specs.Blocks.{readBlock, readMetric}
+use Rattle.block_reader.specs.Blocks.{readBlock}
+use Rattle.metric_reader.specs.Metrics.{readMetric}
 use Rattle.rewriter.specs.Rewrite.{rewriteOf}
 use Rattle.refusal.specs.declared.Refusal.the-variants.{OutputTooShort, PacketTooShort, BadVersion, BadType, BadLength, Padded, RunsIntoRts, TooManyReports, FillerNotZero, NoBlock, NoNumber}
 use Rattle.metric.specs.declared.Metric.the-variants.{NotReceived, Received}

@@ -12,19 +12,21 @@ use Rattle.octets.specs.Output.{OutputAfter, outputAfter}
 use Rattle.packet.specs.Packet.{Packet}
 use Rattle.packet.specs.Sizes.{mostReports, blockOctets}
 use Rattle.packet.proofs.Sizes.{even-octets, odd-octets}
-use Rattle.walk.specs.Walk.{versionOf, paddingOf, formatOf, typeOf, lengthOf, rtsAt, startOf, fillerAt, blockHere, stepAt}
+use Rattle.header.specs.Header.{versionOf, paddingOf, formatOf, typeOf, lengthOf, startOf}
+use Rattle.walk.specs.Walk.{rtsAt, fillerAt, blockHere, stepAt}
 use Rattle.walk.specs.Walk.{Walked, walked, stopped, inFront, onward, walk, walkFrom, started, walkOf}
 use Rattle.walk.specs.declared.ReportBlock.{ReportBlock}
-use Rattle.walk.specs.declared.Cursor.{Cursor}
-use Rattle.walk.specs.declared.Start.{Start}
+use Rattle.header.specs.declared.Cursor.{Cursor}
+use Rattle.header.specs.declared.Start.{Start}
 use Rattle.walk.specs.declared.Step.{Step}
-use Rattle.walk.proofs.Starts.{too-short, bad-version, bad-type, bad-format, bad-length, padded, sound, sound-header}
+use Rattle.header.proofs.Starts.{too-short, bad-version, bad-type, bad-format, bad-length, padded, sound, sound-header}
 use Rattle.walk.proofs.Steps.{step-end, step-no-header, step-many, step-overrun, step-filler, step-found, found, next-at, next-room}
 use Rattle.walk.proofs.Walks.{walk-block, walk-end, walk-refused, walk-ind}
 use Rattle.reports.specs.Reports.{reportedIn}
 use Rattle.reader.specs.Reading.{Decoded, packet, refused, blockIn, packetIn, decoded, decodePacket, readOf}
 use Rattle.reader.proofs.Answers.{walked-sound}
-use Rattle.block_reader.specs.Blocks.{nth, located, readBlock, metricsPart, reportedOf, readMetric}
+use Rattle.block_reader.specs.Blocks.{nth, located, readBlock}
+use Rattle.metric_reader.specs.Metrics.{metricsPart, reportedOf, readMetric}
 use Rattle.block_reader.specs.declared.BlockAnswer.{BlockAnswer}
 use Rattle.rewriter.specs.Rewrite.{rewriteOf}
 use Rattle.rewriter.specs.declared.Rewriting.{Rewriting}
@@ -35,7 +37,7 @@ use Rattle.packet_laws.proofs.Asked.{accepted, accepted-octets, metric-
 use Rattle.refusal.specs.declared.Refusal.the-variants.{OutputTooShort, PacketTooShort, BadVersion, BadType, BadLength, Padded}
 use Rattle.refusal.specs.declared.Refusal.the-variants.{RunsIntoRts, TooManyReports, FillerNotZero, NoBlock, NoNumber}
 use Rattle.packet.specs.Packet as form
-use Rattle.walk.specs.declared.Start.the-variants as start
+use Rattle.header.specs.declared.Start.the-variants as start
 use Rattle.walk.specs.declared.Step.the-variants.{Block, End, Refused}
 use Rattle.reader.specs.declared.Reading.the-variants as reading
 use Rattle.block_reader.specs.declared.BlockAnswer.the-variants as answer

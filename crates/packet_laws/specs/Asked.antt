@@ -11,10 +11,10 @@ use Rattle.packet.specs.Packet.{Block}
 use Rattle.packet.specs.Sizes.{blockHeaderOctets, blockOctets}
 use Rattle.walk.specs.declared.ReportBlock.{ReportBlock}
 use Rattle.reports.specs.declared.MetricAnswer.{MetricAnswer}
-use Rattle.reports.specs.declared.PartAnswer.{PartAnswer}
+use Rattle.metric_part.specs.declared.PartAnswer.{PartAnswer}
 use Rattle.refusal.specs.declared.Refusal.the-variants.{NoBlock, NoNumber}
 use Rattle.reports.specs.declared.MetricAnswer.the-variants.{Reported, Refused}
-use Rattle.reports.specs.declared.PartAnswer.the-variants as part
+use Rattle.metric_part.specs.declared.PartAnswer.the-variants as part
 
 -- a block that stands at an offset: its metrics follow its header
 abbrev pub laidBlock : ℕ → Block → ReportBlock

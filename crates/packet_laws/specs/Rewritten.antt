@@ -4,7 +4,8 @@ use mathlib.Core.Path.{_≡_}
 use mathlib.Core.List.{List}
 use lib.ListN.{length, take, drop}
 use Rattle.reader.specs.Reading.{decodePacket, readOf}
-use Rattle.block_reader.specs.Blocks.{readBlock, readMetric}
+use Rattle.block_reader.specs.Blocks.{readBlock}
+use Rattle.metric_reader.specs.Metrics.{readMetric}
 
 -- reading the octets t gives the answers that reading s gives: sender, RTS and number of blocks; each block;
 -- each metric's number and case

@@ -3,11 +3,11 @@ ghost use mathlib.Core.Path.{_≡_};
 ghost use Rattle.walk.specs.Walk.{walkFrom, walkOf};
 ghost use Rattle.reader.specs.Reading.{decodePacket, readOf};
 ghost use Rattle.reader.specs.Steps.{counted};
+use header::Cursor;
+use header::Start;
 use packet::RTS_OCTETS;
 use packet::SENDER_AT;
 use refusal::Refusal;
-use walk::Cursor;
-use walk::Start;
 use walk::Step;
 
 // How many blocks were walked, or the refusal that stopped the walk.
@@ -33,7 +33,7 @@ pub fn count_blocks_from(packet: &[u8], from: Cursor) -> Count
     let mut cursor = from;
     let mut n = 0;
     loop {
-        let here = cursor.next(packet);
+        let here = walk::next(cursor, packet);
         match here {
             Step::Block(_, next) => {
                 cursor = next;
@@ -49,7 +49,7 @@ pub fn count_blocks_from(packet: &[u8], from: Cursor) -> Count
 pub fn count_blocks(packet: &[u8]) -> Count
     ensures value { λ r. ⌜ r ≡ counted 0 (walkOf (now (packet .entry))) ⌝ }
 {
-    let first = Cursor::start(packet);
+    let first = header::read_header(packet);
     match first {
         Start::At(cursor) => count_blocks_from(packet, cursor),
         Start::Refused(e) => Count::Stopped(e),

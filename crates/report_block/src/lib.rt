@@ -5,7 +5,7 @@ ghost use Prim.Native.Nat.{_+_, _*_, _≤_};
 ghost use lib.ListN.{length};
 ghost use lib.Seq.{sets};
 ghost use Rattle.ring.specs.Ring.{cellsOfAPlace};
-ghost use Rattle.store.specs.Store.{cellMetric};
+ghost use Rattle.cell_metrics.specs.Metrics.{cellMetric};
 ghost use Rattle.packet.specs.Sizes.{blockOctets};
 ghost use Rattle.packet.specs.Packet.{encodeMetrics, encodeBlock};
 ghost use Rattle.cutting.specs.Cutting.{numbersFrom};
@@ -23,7 +23,7 @@ fn put_metrics(out: &mut [u8], at: usize, cells: &[u64], rts: u32, p: usize, beg
     let mut number = begin;
     let mut left = count;
     while 0 < left {
-        octets_put::put16(out, i, store::cell_metric(cells, rts, p, number));
+        octets_put::put16(out, i, cell_metrics::cell_metric(cells, rts, p, number));
         i += 2;
         number = cutting::number_after(number, 1);
         left -= 1;
@@ -48,7 +48,7 @@ pub fn put_block(
         ≡ sets (now (out .entry)) at
         (encodeBlock (record { ssrc = ssrc; begin = begin; metrics = map (cellMetric (now (cells .entry)) rts p) (numbersFrom begin count) })) ⌝ }
 {
-    packet_fields::put_block_header(out, at, ssrc, begin, count);
+    block_put::put_block_header(out, at, ssrc, begin, count);
     put_metrics(out, at + BLOCK_HEADER_OCTETS, cells, rts, p, begin, count);
-    packet_fields::put_filler(out, at + BLOCK_HEADER_OCTETS + 2 * (count as usize), count);
+    block_put::put_filler(out, at + BLOCK_HEADER_OCTETS + 2 * (count as usize), count);
 }

@@ -9,13 +9,13 @@ ghost use Rattle.packet.specs.Packet.{encodeBlock};
 ghost use Rattle.reader.specs.Reading.{blockIn, decodePacket};
 ghost use Rattle.rewriter.specs.Rewrite.{rewriteBlock, rewriteOf};
 ghost use Rattle.rewriter.specs.Steps.{rewrittenFrom};
+use header::Cursor;
 use packet::BLOCK_HEADER_OCTETS;
 use packet::PACKET_HEADER_OCTETS;
 use packet::RTS_OCTETS;
 use packet::SENDER_AT;
 use reader::Count;
 use refusal::Refusal;
-use walk::Cursor;
 use walk::ReportBlock;
 use walk::Step;
 
@@ -35,9 +35,9 @@ fn rewrite_block(packet: &[u8], out: &mut [u8], at: usize, b: ReportBlock)
 {
     let from = at + BLOCK_HEADER_OCTETS;
     let n = b.num_reports as usize;
-    packet_fields::put_block_header(out, at, b.ssrc, b.begin_seq, b.num_reports);
+    block_put::put_block_header(out, at, b.ssrc, b.begin_seq, b.num_reports);
     metric_rewriter::rewrite_metrics(packet, out, from, n);
-    packet_fields::put_filler(out, from + 2 * n, b.num_reports);
+    block_put::put_filler(out, from + 2 * n, b.num_reports);
 }
 
 // Writes the blocks of the packet, rewritten, starting at a cursor.
@@ -50,7 +50,7 @@ fn rewrite_blocks(packet: &[u8], out: &mut [u8], from: Cursor)
 {
     let mut cursor = from;
     loop {
-        let here = cursor.next(packet);
+        let here = walk::next(cursor, packet);
         match here {
             Step::Block(b, next) => {
                 rewrite_block(packet, out, cursor.at, b);
@@ -75,7 +75,7 @@ pub fn rewrite(packet: &[u8], out: &mut [u8]) -> Rewriting
         return Rewriting::Refused(Refusal::OutputTooShort);
     }
     let rts = size - RTS_OCTETS;
-    packet_fields::put_header(out, size, octets::get32(packet, SENDER_AT));
+    header_put::put_header(out, size, octets::get32(packet, SENDER_AT));
     rewrite_blocks(
         packet,
         out,

@@ -4,13 +4,10 @@ use mathlib.Core.Bool.{cond}
 use mathlib.Core.List.{List}
 use lib.ListN.{set}
 use Rattle.lists.specs.declared.Found.{Found}
-use Rattle.metric.specs.Metric.{encodeOf}
 use Rattle.places.specs.Place.{placeAt, findOf}
 use Rattle.places.specs.Shape.{shaped}
-use Rattle.place_window.specs.Window.{cellAt}
 use Rattle.places.specs.After.{PlacesAfter, placesAfter}
 use Rattle.places.specs.declared.Holding.{Holding}
-use Rattle.cells.specs.Cell.{readCell}
 use Rattle.store.specs.declared.Forgetting.{Forgetting}
 use Rattle.store.specs.declared.PlaceAnswer.{PlaceAnswer}
 use Rattle.lists.specs.declared.Found.the-variants.{At, Nothing}
@@ -37,8 +34,3 @@ answerOf (Held ssrc highest) = answer.Stream ssrc highest
 
 abbrev pub placeOf : List ℕ → List ℕ → ℕ → PlaceAnswer
 placeOf places cells k = cond (shaped places cells) (answerOf (placeAt places k)) (answer.Refused BadStore)
-
--- ---- the metric of a number of the window of a place, at RTS
-
-unfoldable pub cellMetric : List ℕ → ℕ → ℕ → ℕ → ℕ
-cellMetric cells rts place number = encodeOf (readCell (cellAt cells place number)) rts

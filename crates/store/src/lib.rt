@@ -1,10 +1,7 @@
-// What is asked of a store besides arrivals: to forget a stream, which stream a place holds, and the metric of a number.
+// What is asked of a store besides arrivals: to forget a stream, and which stream a place holds.
 ghost use mathlib.Core.Path.{_≡_};
-ghost use Prim.Native.Nat.{_+_, _*_, _≤_};
-ghost use lib.ListN.{length};
-ghost use Rattle.ring.specs.Ring.{cellsOfAPlace};
 ghost use Rattle.places.specs.After.{placesAfter};
-ghost use Rattle.store.specs.Store.{forgotten, placeOf, cellMetric};
+ghost use Rattle.store.specs.Store.{forgotten, placeOf};
 use lists::Found;
 use places::Holding;
 use refusal::Refusal;
@@ -56,13 +53,4 @@ pub fn place(places: &[u64], cells: &[u64], k: usize) -> PlaceAnswer
         },
         Holding::Free => PlaceAnswer::Refused(Refusal::NotHeld),
     }
-}
-
-// The metric of a number of the window of the place p.
-pub fn cell_metric(cells: &[u64], rts: u32, p: usize, number: u16) -> u16
-    requires room { ⌜ cellsOfAPlace * p + cellsOfAPlace ≤ length (now cells) ⌝ }
-    ensures value { λ r. ⌜ r ≡ cellMetric (now (cells .entry)) rts p number ⌝ }
-{
-    let at = place_window::cell_index(p, number);
-    cells::metric_of_word(cells[at], rts)
 }

@@ -1,57 +1,21 @@
 -- The walk over a packet, which may be any octets: the header, then block by block to RTS or to the first
--- refusal. The refusals in the order of their tests:
---   header   21 fewer than 12 octets, 22 version not 2, 23 type not 205 or FMT not 11,
---            24 length field not that of the octets given, 25 padding flag set
---   block    26 its header runs into RTS, 27 more than 16,384 reports, 26 its metrics run into RTS,
---            28 filler not zero
-use Prim.Native.Nat.{ℕ, zero, suc, _+_, _-_, _*_, _/_, _%_}
-use mathlib.Core.Bool.{Bool, cond, not}
+-- refusal. The refusals of a block in the order of their tests: 26 its header runs into RTS, 27 more than 16,384
+-- reports, 26 its metrics run into RTS, 28 filler not zero.
+use Prim.Native.Nat.{ℕ, zero, suc, _+_, _-_, _*_, _%_}
+use mathlib.Core.Bool.{cond}
 use mathlib.Core.List.{List, [], _∷_}
-use lib.ListN.{length, getD}
+use lib.ListN.{length}
 use lib.Dec.{eqb, ltb, leb}
 use Rattle.refusal.specs.declared.Refusal.{Refusal}
 use Rattle.octets.specs.Octets.{be16, be32}
-use Rattle.packet.specs.Packet.{version, format, packetType, versionUnit, paddingUnit}
-use Rattle.packet.specs.Sizes.{mostReports, wordOctets, packetHeaderOctets, blockHeaderOctets, rtsOctets, packetFrame, blockOctets}
+use Rattle.header.specs.Header.{differ, startOf}
+use Rattle.packet.specs.Sizes.{mostReports, blockHeaderOctets, rtsOctets, blockOctets}
 use Rattle.walk.specs.declared.ReportBlock.{ReportBlock}
-use Rattle.walk.specs.declared.Start.{Start}
+use Rattle.header.specs.declared.Start.{Start}
 use Rattle.walk.specs.declared.Step.{Step}
-use Rattle.refusal.specs.declared.Refusal.the-variants.{PacketTooShort, BadVersion, BadType, BadLength, Padded, RunsIntoRts, TooManyReports, FillerNotZero}
-use Rattle.walk.specs.declared.Start.the-variants as start
+use Rattle.refusal.specs.declared.Refusal.the-variants.{RunsIntoRts, TooManyReports, FillerNotZero}
+use Rattle.header.specs.declared.Start.the-variants as start
 use Rattle.walk.specs.declared.Step.the-variants.{Block, End, Refused}
-
-abbrev pub differ : ℕ → ℕ → Bool
-differ a b = not (eqb a b)
-
--- ---- the header
-
--- octet 0: version, padding flag, FMT; octet 1: type; octets 2 and 3: length in 32-bit words minus one
-abbrev pub versionOf : List ℕ → ℕ
-versionOf s = getD s 0 0 / versionUnit
-
-abbrev pub paddingOf : List ℕ → ℕ
-paddingOf s = getD s 0 0 / paddingUnit % 2
-
-abbrev pub formatOf : List ℕ → ℕ
-formatOf s = getD s 0 0 % paddingUnit
-
-abbrev pub typeOf : List ℕ → ℕ
-typeOf s = getD s 1 0
-
--- how many octets the length field says that the packet has
-abbrev pub lengthOf : List ℕ → ℕ
-lengthOf s = wordOctets * (be16 s 2 + 1)
-
--- refusals 21 to 25; a sound header leads to the first block, at octet 8
-unfoldable pub startOf : List ℕ → Start
-startOf s =
-    cond (ltb (length s) packetFrame) (start.Refused PacketTooShort)
-    (cond (differ (versionOf s) version) (start.Refused BadVersion)
-    (cond (differ (typeOf s) packetType) (start.Refused BadType)
-    (cond (differ (formatOf s) format) (start.Refused BadType)
-    (cond (differ (lengthOf s) (length s)) (start.Refused BadLength)
-    (cond (differ (paddingOf s) 0) (start.Refused Padded)
-    (start.At (record { at = packetHeaderOctets })))))))
 
 -- ---- the block at an offset
 

@@ -3,18 +3,11 @@ ghost use mathlib.Core.Path.{_≡_};
 ghost use Prim.Native.Nat.{_+_, _≤_};
 ghost use lib.ListN.{length};
 ghost use Rattle.packet.specs.Sizes.{blockOctets};
-ghost use Rattle.walk.specs.Walk.{startOf, fillerAt, stepAt};
+ghost use Rattle.walk.specs.Walk.{fillerAt, stepAt};
+use header::Cursor;
 use packet::BLOCK_HEADER_OCTETS;
-use packet::FORMAT;
 use packet::MOST_REPORTS;
-use packet::PACKET_FRAME;
-use packet::PACKET_HEADER_OCTETS;
-use packet::PACKET_TYPE;
-use packet::PADDING_UNIT;
 use packet::RTS_OCTETS;
-use packet::VERSION;
-use packet::VERSION_UNIT;
-use packet::WORD_OCTETS;
 use refusal::Refusal;
 
 // A report block of a packet: it reports num_reports numbers, starting at begin_seq, and their metrics stand at the
@@ -24,17 +17,6 @@ pub struct ReportBlock {
     pub begin_seq: u16,
     pub num_reports: u16,
     pub metrics_at: usize,
-}
-
-// Where a walk over the blocks of a packet stands: an offset into the packet.
-pub struct Cursor {
-    pub at: usize,
-}
-
-// What the header of a packet leads to.
-pub enum Start {
-    At(Cursor),
-    Refused(Refusal),
 }
 
 // What stands at a cursor: a block, with the cursor behind it, or the end of the blocks.
@@ -58,68 +40,39 @@ fn filler_at(packet: &[u8], at: usize, num_reports: u16) -> u16
     )
 }
 
-impl Cursor {
-    // A cursor at the first block, or the first of the header's refusals, 21 to 25.
-    pub fn start(packet: &[u8]) -> Start
-        ensures value { λ r. ⌜ r ≡ startOf (now (packet .entry)) ⌝ }
-    {
-        if packet.len() < PACKET_FRAME {
-            return Start::Refused(Refusal::PacketTooShort);
-        }
-        if packet[0] / VERSION_UNIT != VERSION {
-            return Start::Refused(Refusal::BadVersion);
-        }
-        if packet[1] != PACKET_TYPE {
-            return Start::Refused(Refusal::BadType);
-        }
-        if packet[0] % PADDING_UNIT != FORMAT {
-            return Start::Refused(Refusal::BadType);
-        }
-        if WORD_OCTETS * ((octets::get16(packet, 2) as usize) + 1) != packet.len() {
-            return Start::Refused(Refusal::BadLength);
-        }
-        if packet[0] / PADDING_UNIT % 2 != 0 {
-            return Start::Refused(Refusal::Padded);
-        }
-        Start::At(Cursor {
-            at: PACKET_HEADER_OCTETS,
-        })
+// The block that stands here and the cursor behind it, or the end, or the first of the block's refusals, 26 to 28.
+pub fn next(cursor: Cursor, packet: &[u8]) -> Step
+    ensures value { λ r. ⌜ r ≡ stepAt (now (packet .entry)) (cursor .at) ⌝ }
+{
+    let at = cursor.at;
+    if packet.len() < RTS_OCTETS {
+        return Step::End;
     }
-
-    // The block that stands here and the cursor behind it, or the end, or the first of the block's refusals, 26 to 28.
-    pub fn next(self, packet: &[u8]) -> Step
-        ensures value { λ r. ⌜ r ≡ stepAt (now (packet .entry)) (self .at) ⌝ }
-    {
-        let at = self.at;
-        if packet.len() < RTS_OCTETS {
-            return Step::End;
-        }
-        let rts = packet.len() - RTS_OCTETS;
-        if rts <= at {
-            return Step::End;
-        }
-        if rts - at < BLOCK_HEADER_OCTETS {
-            return Step::Refused(Refusal::RunsIntoRts);
-        }
-        let num_reports = octets::get16(packet, at + 6);
-        if MOST_REPORTS < num_reports {
-            return Step::Refused(Refusal::TooManyReports);
-        }
-        let size = packet::block_octets(num_reports);
-        if rts - at < size {
-            return Step::Refused(Refusal::RunsIntoRts);
-        }
-        if filler_at(packet, at, num_reports) != 0 {
-            return Step::Refused(Refusal::FillerNotZero);
-        }
-        Step::Block(
-            ReportBlock {
-                ssrc: octets::get32(packet, at),
-                begin_seq: octets::get16(packet, at + 4),
-                num_reports: num_reports,
-                metrics_at: at + BLOCK_HEADER_OCTETS,
-            },
-            Cursor { at: at + size },
-        )
+    let rts = packet.len() - RTS_OCTETS;
+    if rts <= at {
+        return Step::End;
     }
+    if rts - at < BLOCK_HEADER_OCTETS {
+        return Step::Refused(Refusal::RunsIntoRts);
+    }
+    let num_reports = octets::get16(packet, at + 6);
+    if MOST_REPORTS < num_reports {
+        return Step::Refused(Refusal::TooManyReports);
+    }
+    let size = packet::block_octets(num_reports);
+    if rts - at < size {
+        return Step::Refused(Refusal::RunsIntoRts);
+    }
+    if filler_at(packet, at, num_reports) != 0 {
+        return Step::Refused(Refusal::FillerNotZero);
+    }
+    Step::Block(
+        ReportBlock {
+            ssrc: octets::get32(packet, at),
+            begin_seq: octets::get16(packet, at + 4),
+            num_reports: num_reports,
+            metrics_at: at + BLOCK_HEADER_OCTETS,
+        },
+        Cursor { at: at + size },
+    )
 }

@@ -3,34 +3,19 @@
 use Prim.Native.Nat.{ℕ}
 use mathlib.Core.Bool.{cond}
 use mathlib.Core.List.{List, []}
-use lib.ListN.{length}
-use lib.Seq.{sets}
 use lib.Dec.{ltb}
-use Rattle.refusal.specs.declared.Refusal.{Refusal}
-use Rattle.octets.specs.Output.{OutputAfter, outputAfter}
+use Rattle.octets.specs.Output.{OutputAfter}
 use Rattle.places.specs.Shape.{shaped}
-use Rattle.cutting.specs.Cutting.{Cutting}
 use Rattle.cutting.specs.Limits.{leastLimit, mostLimit, mostRequests}
-use Rattle.cutting.specs.Plan.{plan, totalOctets}
+use Rattle.cutting.specs.Plan.{plan}
 use Rattle.cutting.specs.declared.Request.{Request}
 use Rattle.requests.specs.declared.Verdict.{Verdict}
 use Rattle.requests.specs.Requests.{checked}
-use Rattle.blocks.specs.Packets.{encodePackets, packetsFor}
-use Rattle.writer.specs.declared.Answer.{Answer}
-use Rattle.refusal.specs.declared.Refusal.the-variants.{BadStore, BadLimit, TooManyRequests, OutputTooShort}
-use Rattle.packet.specs.Packet as packet
+use Rattle.blocks.specs.Packets.{packetsFor}
+use Rattle.sound_writer.specs.Put.{writingRefused, putPackets}
+use Rattle.sound_writer.specs.declared.Answer.{Answer}
+use Rattle.refusal.specs.declared.Refusal.the-variants.{BadStore, BadLimit, TooManyRequests}
 use Rattle.requests.specs.declared.Verdict.the-variants.{Sound, Fault}
-use Rattle.writer.specs.declared.Answer.the-variants.{Written, Refused}
-
--- a refused call leaves the output as it was
-abbrev pub writingRefused : Refusal → List ℕ → OutputAfter Answer
-writingRefused e out = outputAfter (Refused e) out
-
--- the packets ps of a cutting c, if the output has room for them
-unfoldable pub putPackets : Cutting → List packet.Packet → List ℕ → OutputAfter Answer
-putPackets c ps out =
-    cond (ltb (length out) (totalOctets c)) (writingRefused OutputTooShort out)
-    (outputAfter (Written (length c) (totalOctets c)) (sets out 0 (encodePackets ps)))
 
 -- o, if the verdict on the requests is that all are sound
 abbrev pub ifAllSound : Verdict → OutputAfter Answer → List ℕ → OutputAfter Answer

@@ -17,7 +17,7 @@ use Rattle.metric.proofs.ReadBack.{decode-encode}
 use Rattle.places.specs.Place.{findOf}
 use Rattle.place_window.specs.Window.{cellAt}
 use Rattle.cells.specs.Cell.{readCell}
-use Rattle.store.specs.Store.{cellMetric}
+use Rattle.cell_metrics.specs.Metrics.{cellMetric}
 use Rattle.packet.specs.Sizes.{blocksOctets}
 use Rattle.packet.proofs.Sizes.{length-packet}
 use Rattle.walk.specs.Walk.{Walked}

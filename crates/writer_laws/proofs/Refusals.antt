@@ -18,14 +18,15 @@ use Rattle.cutting.specs.Limits.{leastLimit, mostLimit, mostRequests}
 use Rattle.cutting.specs.Plan.{packetsFrom, plan, totalOctets}
 use Rattle.cutting.specs.declared.Request.{Request}
 use Rattle.blocks.specs.Packets.{storeMetric, reportPacket, encodePackets, packetsFor}
-use Rattle.writer.specs.Written.{writingRefused, putPackets, written}
-use Rattle.writer.specs.declared.Answer.{Answer}
+use Rattle.sound_writer.specs.Put.{writingRefused, putPackets}
+use Rattle.writer.specs.Written.{written}
+use Rattle.sound_writer.specs.declared.Answer.{Answer}
 use Rattle.packets.proofs.Packets.{length-report}
 use Rattle.writer.proofs.Calls.{bad-store, limit-low, limit-high, too-many, unsound, sound}
 use Rattle.writer_laws.specs.Refused.{AllSound, none, Proper, WritingGiven, badStore, badLimit, tooMany, inRequest, tooShort}
 use Rattle.writer_laws.proofs.Requests.{sound-checked, fault-checked, checked-cases}
 use Rattle.refusal.specs.declared.Refusal.the-variants.{OutputTooShort}
-use Rattle.writer.specs.declared.Answer.the-variants.{Written, Refused}
+use Rattle.sound_writer.specs.declared.Answer.the-variants.{Written, Refused}
 
 -- the octets of packets back to back
 length-packets : (metric : ℕ → ℕ → ℕ) (rs : List Request) (sender rts : ℕ) (c : Cutting)

@@ -18,14 +18,15 @@ use Rattle.places.specs.Place.{findOf, highestAt}
 use Rattle.places.proofs.Held.{lost-unheld, held-found, unheld-lost, found-held}
 use Rattle.cutting.specs.Cutting.{DifferentStreams}
 use Rattle.cutting.specs.declared.Request.{Request}
-use Rattle.requests.specs.declared.Checked.{Checked}
+use Rattle.request_check.specs.declared.Checked.{Checked}
 use Rattle.requests.specs.declared.Verdict.{Verdict}
-use Rattle.requests.specs.Requests.{named, inWindow, checkOf, andThen, checked}
-use Rattle.requests.proofs.Checks.{check-unheld, check-repeated, check-sound, check-outside, window-empty, window-in, window-out}
+use Rattle.request_check.specs.Check.{named, inWindow, checkOf}
+use Rattle.requests.specs.Requests.{andThen, checked}
+use Rattle.request_check.proofs.Checks.{check-unheld, check-repeated, check-sound, check-outside, window-empty, window-in, window-out}
 use Rattle.writer_laws.specs.Refused.{Named, here, there, InWindow, SoundAt, FaultIn, AllSound, none, more, FirstFault}
 use Rattle.refusal.specs.declared.Refusal.the-variants.{NotHeld, StreamRepeated, BadRange}
 use Rattle.lists.specs.declared.Found.the-variants as lists
-use Rattle.requests.specs.declared.Checked.the-variants.{At, Fault}
+use Rattle.request_check.specs.declared.Checked.the-variants.{At, Fault}
 use Rattle.requests.specs.declared.Verdict.the-variants as verdict
 
 -- ---- the tests

@@ -13,7 +13,7 @@ use Rattle.ring.specs.Ring.{cellsOfAPlace}
 use Rattle.places.specs.Place.{findOf}
 use Rattle.place_window.specs.Window.{cellAt}
 use Rattle.cells.specs.Cell.{readCell}
-use Rattle.store.specs.Store.{cellMetric}
+use Rattle.cell_metrics.specs.Metrics.{cellMetric}
 use Rattle.packet.specs.Sizes.{blockOctets, packetOctets}
 use Rattle.cutting.specs.Cutting.{CutBlock, CutPacket, following, numbersFrom, wholeBlocks, streamOf, counts}
 use Rattle.cutting.specs.Limits.{leastLimit, mostLimit}

@@ -15,14 +15,14 @@ use Rattle.cutting.specs.declared.Request.{Request}
 use Rattle.cutting.proofs.Theorems.{plan-cuts, plan-fewest}
 use Rattle.blocks.specs.Packets.{reportPacket, encodePackets, packetsFor}
 use Rattle.writer.specs.Written.{written}
-use Rattle.writer.specs.declared.Answer.{Answer}
+use Rattle.sound_writer.specs.declared.Answer.{Answer}
 use Rattle.writer_laws.specs.Read.{packetsIn, MetricsRead, InBits, Report}
 use Rattle.writer_laws.proofs.Requests.{sound-different, sound-counts}
 use Rattle.writer_laws.proofs.Refusals.{length-octets, WritingAccepted, accepted-written, accepted}
 use Rattle.writer_laws.proofs.Small.{Fits, metricAsked, plan-small, report-fits}
 use Rattle.writer_laws.proofs.Output.{packets-in, all-accepted, cutting-read, metrics-read}
 use Rattle.packet.specs.Packet as packet
-use Rattle.writer.specs.declared.Answer.the-variants.{Written}
+use Rattle.sound_writer.specs.declared.Answer.the-variants.{Written}
 
 -- ---- what is written stands in front, and the octets behind it stay
 

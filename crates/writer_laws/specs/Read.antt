@@ -18,7 +18,8 @@ use Rattle.cells.specs.Cell.{readCell}
 use Rattle.walk.specs.Walk.{Walked, walked, stopped, walkOf}
 use Rattle.walk.specs.declared.ReportBlock.{ReportBlock}
 use Rattle.reader.specs.Reading.{Decoded, decodePacket}
-use Rattle.block_reader.specs.Blocks.{located, reportedOf}
+use Rattle.block_reader.specs.Blocks.{located}
+use Rattle.metric_reader.specs.Metrics.{reportedOf}
 use Rattle.cutting.specs.Cutting.{CutBlock, CutPacket, Cutting, Cuts}
 use Rattle.cutting.specs.declared.Request.{Request}
 use Rattle.blocks.specs.Packets.{packetsFor}

@@ -6,10 +6,10 @@ use Rattle.octets.specs.Output.{OutputAfter}
 use Rattle.ring.specs.Ring.{cellsOfAPlace}
 use Rattle.places.specs.Place.{placeWord}
 use Rattle.cutting.specs.declared.Request.{Request}
-use Rattle.writer.specs.declared.Answer.{Answer}
+use Rattle.sound_writer.specs.declared.Answer.{Answer}
 use Rattle.writer.specs.Written.{written}
 use Rattle.writer_laws.specs.Read.{packetsIn}
-use Rattle.writer.specs.declared.Answer.the-variants.{Written, Refused}
+use Rattle.sound_writer.specs.declared.Answer.the-variants.{Written, Refused}
 
 -- 65534 to 2 of one stream, and 0 to 2 of another; both have 2 as their highest number
 unfoldable pub five-three : List Request

@@ -3,6 +3,7 @@
 
 use reference::compare::{run, With, SUBJECTS};
 use std::process::exit;
+use std::thread;
 
 fn main() {
     let mut arguments: Vec<String> = std::env::args().skip(1).collect();
@@ -15,9 +16,13 @@ fn main() {
     }
     let named = !arguments.is_empty();
     let all = SUBJECTS.map(String::from).to_vec();
+    // The subjects share nothing: each has its thread, and their lines come in order.
+    let subjects = (if named { arguments } else { all }).into_iter();
+    let started: Vec<_> =
+        subjects.map(|name| (name.clone(), thread::spawn(move || run(&name, with)))).collect();
     let mut ran = 0;
-    for name in if named { arguments } else { all } {
-        match run(&name, with) {
+    for (name, subject) in started {
+        match subject.join().expect("a comparison does not panic") {
             None if named => fail(2, &format!("compare: {name} is not in this build")),
             None => {}
             Some(Err(mismatch)) => fail(1, &mismatch),

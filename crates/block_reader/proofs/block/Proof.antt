@@ -6,12 +6,12 @@ use Rattle.block_reader.proofs.block.Tie as tie
 
 returns : tie.Need-returns
 returns c =
-    let start = c .before .before .before .before .start in
+    let start = c .before .before .before .before .read-header in
     rw (start-at _ _ _ (start .ensures) (c .before .before .first .given .1)) (c .block-from .ensures)
 
 returns-2 : tie.Need-returns-2
 returns-2 c =
-    let start = c .before .before .before .start in
+    let start = c .before .before .before .read-header in
     rw (start-refused _ _ _ (start .ensures) (c .before .first2 .given .1))
 
 pub block-spec : {M : Type 1} → statement M

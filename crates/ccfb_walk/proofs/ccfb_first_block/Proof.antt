@@ -1,6 +1,6 @@
 -- `ccfb_walk::ccfb_first_block` meets its contract. Assumes nothing.
 use mathlib.Core.List.{[], _∷_}
-use Rattle.walk.specs.declared.Start.{Start}
+use Rattle.header.specs.declared.Start.{Start}
 use Rattle.ccfb_calls.proofs.Told.{told}
 use Rattle.ccfb_walk.specs.Walk.{firstCalled}
 use borrow.Author.Needs.{needs}
@@ -12,7 +12,7 @@ returns c =
     let after-start = c .before .before .before in
     let args = after-start .before .before .args in
     told (λ (x : Start). firstCalled x (args .at .now ∷ []))
-    (after-start .start .ensures) (c .before .first .given .1)
+    (after-start .read-header .ensures) (c .before .first .given .1)
 
 returns-2 : tie.Need-returns-2
 returns-2 c =
@@ -20,7 +20,7 @@ returns-2 c =
     let args = after-start .before .before .args in
     rw (c .number .ensures)
     (told (λ (x : Start). firstCalled x (args .at .now ∷ []))
-    (after-start .start .ensures) (c .before .before .first2 .given .1))
+    (after-start .read-header .ensures) (c .before .before .first2 .given .1))
 
 pub ccfb-first-block-spec : {M : Type 1} → statement M
 ccfb-first-block-spec =

@@ -1,7 +1,7 @@
 -- `ccfb_walk::ccfb_metric_at` meets its contract. Assumes nothing.
 use mathlib.Core.Path.{ap, _∙_}
 use mathlib.Core.List.{_∷_}
-use Rattle.reports.specs.declared.PartAnswer.{PartAnswer}
+use Rattle.metric_part.specs.declared.PartAnswer.{PartAnswer}
 use Rattle.ccfb_calls.specs.Called.{Called, called}
 use Rattle.ccfb_calls.proofs.Told.{told}
 use Rattle.ccfb_walk.specs.Walk.{metricAtCalled}

@@ -36,7 +36,7 @@ use denote.Triple.Table.{entered, cited}
 use contract.Lifetimes.{Lfts}
 use Rattle.octets.specs.Output.{OutputAfter}
 use Rattle.cutting.specs.declared.Request.{Request}
-use Rattle.writer.specs.declared.Answer.{Answer}
+use Rattle.sound_writer.specs.declared.Answer.{Answer}
 use Rattle.request_list.specs.Lent.{gatheredOf}
 use Rattle.request_list.proofs.Walk.{holds, span, allocs-all, frees-all, var, lets, Terms, meets, owns-apart, calls-to, ends}
 use Rattle.ccfb_writer.specs.Writing.{writeCalled}

@@ -1,7 +1,7 @@
 -- `ccfb_writer::write_array` meets its contract. Assumes nothing.
 use mathlib.Core.Path.{sym, ap, _∙_}
 use Rattle.octets.specs.Output.{OutputAfter}
-use Rattle.writer.specs.declared.Answer.{Answer}
+use Rattle.sound_writer.specs.declared.Answer.{Answer}
 use Rattle.ccfb_writer.specs.Writing.{writeCalledBy, writeCalled}
 use borrow.Author.Needs.{needs}
 use Rattle.ccfb_writer.proofs.write_array.Statement.{statement}

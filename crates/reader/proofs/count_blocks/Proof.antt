@@ -8,12 +8,12 @@ use Rattle.reader.proofs.count_blocks.Tie as tie
 
 returns : tie.Need-returns
 returns c =
-    let start = c .before .before .before .before .start in
+    let start = c .before .before .before .before .read-header in
     c .count-blocks-from .ensures ∙ ap (counted 0) (sym (start-at _ _ _ (start .ensures) (c .before .before .first .given .1)))
 
 returns-2 : tie.Need-returns-2
 returns-2 c =
-    let start = c .before .before .before .start in
+    let start = c .before .before .before .read-header in
     ap (counted 0) (sym (start-refused _ _ _ (start .ensures) (c .before .first2 .given .1)))
 
 pub count-blocks-spec : {M : Type 1} → statement M

@@ -1,5 +1,5 @@
 -- `report_block::put_block` meets its contract. Assumes nothing.
-use Rattle.store.specs.Store.{cellMetric}
+use Rattle.cell_metrics.specs.Metrics.{cellMetric}
 use Rattle.report_block.proofs.Metrics.{block-parts}
 use borrow.Author.Needs.{needs}
 use Rattle.report_block.proofs.put_block.Statement.{statement}

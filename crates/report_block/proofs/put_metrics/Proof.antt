@@ -4,7 +4,7 @@ use Prim.Native.Nat.{_+_, _*_, _≤_}
 use mathlib.Core.Path.{_≡_, refl, sym, ap, _∙_}
 use lib.ListN.{length}
 use lib.Seq.{sets}
-use Rattle.store.specs.Store.{cellMetric}
+use Rattle.cell_metrics.specs.Metrics.{cellMetric}
 use Rattle.packet.specs.Packet.{encodeMetrics}
 use Rattle.report_block.proofs.Metrics.{metricsOf, metrics-turn, metrics-none}
 use borrow.Author.Needs.{needs}

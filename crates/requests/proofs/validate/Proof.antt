@@ -9,7 +9,8 @@ use lib.Seq.{length-take-le}
 use Rattle.cutting.specs.Limits.{mostRequests}
 use Rattle.cutting.proofs.Requests.{stream-at}
 use Rattle.requests.specs.Requests.{checked}
-use Rattle.requests.proofs.Checks.{FoundTo, found-none, found-more, check-found, checked-on, checked-fault, checked-none, no-fault}
+use Rattle.requests.proofs.Turns.{FoundTo, found-none, found-more, checked-on, checked-fault, checked-none, no-fault}
+use Rattle.request_check.proofs.Checks.{check-found}
 use borrow.Author.Needs.{needs}
 use Rattle.requests.proofs.validate.Statement.{statement}
 use Rattle.requests.proofs.validate.Tie as tie

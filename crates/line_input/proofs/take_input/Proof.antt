@@ -1,0 +1,131 @@
+-- `line_input::take_input` is safe and ends: the measure is the turns that are left. Assumes nothing.
+use Prim.Native.Nat.{_<_}
+use mathlib.Core.Path.{_≡_, refl, _∙_, subst}
+use native.Mathlib.Omega.{arith}
+use borrow.Author.Needs.{needs}
+use lib.ListN.{length}
+use Rattle.arrival_record.specs.Record.{recordOctets}
+use Rattle.line_input.specs.Turn.{Short}
+use Rattle.line_input.proofs.take_input.Statement.{statement}
+use Rattle.line_input.proofs.take_input.Tie as tie
+
+abbrev Inv-loop : tie.InvT-loop
+Inv-loop places₀ cells₀ buf₀ intake₀ turns₀ places cells buf intake turns =
+    (length places ≡ length places₀) × (length cells ≡ length cells₀) × (length buf ≡ length buf₀) × (intake .left < recordOctets)
+
+abbrev μ-loop : tie.MeasureT-loop
+μ-loop places₀ cells₀ buf₀ intake₀ turns₀ places cells buf intake turns = turns
+
+loop-holds : tie.Need-loop-holds Inv-loop μ-loop
+loop-holds c = (refl, refl, refl, rw (c .start .ensures) (omega arith))
+
+take-once-requires : tie.Need-take-once-requires Inv-loop μ-loop
+take-once-requires c κs =
+    let at-loop = c .before .before .before .before in
+    let loop = at-loop .loop in
+    let after-slice-known = at-loop .before .before .before .before in
+    let pre = after-slice-known .before .pre in
+    (loop .inv .3, omega (arith, loop .inv .2, pre))
+
+sub-turns : tie.Need-sub-turns Inv-loop μ-loop
+sub-turns c = omega arith
+
+loop-less : tie.Need-loop-less Inv-loop μ-loop
+loop-less c = omega arith
+
+loop-again : tie.Need-loop-again Inv-loop μ-loop
+loop-again c =
+    let at-match-keys1 = c .before .before in
+    let after-cells = at-match-keys1 .before .before .before .before in
+    let after-take-once = after-cells .before .before .before in
+    let in-loop = after-take-once .before .before .before .before in
+    let t = after-take-once .take-once in
+    let l = in-loop .before .loop in
+    (t .kept .0 ∙ l .inv .0, t .kept .1 .0 ∙ l .inv .1, t .kept .1 .1 .0 ∙ l .inv .2, subst Short (c .before .here .given .1) (t .ensures))
+
+same-length : tie.Need-same-length Inv-loop μ-loop
+same-length c =
+    let at-match-keys2 = c .before .before in
+    let after-cells = at-match-keys2 .before .before .before .before in
+    let after-take-once = after-cells .before .before .before in
+    let in-loop = after-take-once .before .before .before .before in
+    let loop = in-loop .before .loop in
+    after-take-once .take-once .kept .0 ∙ loop .inv .0
+
+same-length-2 : tie.Need-same-length-2 Inv-loop μ-loop
+same-length-2 c =
+    let at-match-keys2 = c .before .before in
+    let after-cells = at-match-keys2 .before .before .before .before in
+    let after-take-once = after-cells .before .before .before in
+    let in-loop = after-take-once .before .before .before .before in
+    let loop = in-loop .before .loop in
+    after-take-once .take-once .kept .1 .0 ∙ loop .inv .1
+
+same-length-3 : tie.Need-same-length-3 Inv-loop μ-loop
+same-length-3 c =
+    let at-match-keys2 = c .before .before in
+    let after-cells = at-match-keys2 .before .before .before .before in
+    let after-take-once = after-cells .before .before .before in
+    let in-loop = after-take-once .before .before .before .before in
+    let loop = in-loop .before .loop in
+    after-take-once .take-once .kept .1 .1 .0 ∙ loop .inv .2
+
+same-length-4 : tie.Need-same-length-4 Inv-loop μ-loop
+same-length-4 c =
+    let after-slice-known5 = c .before .before .before .before in
+    let after-take-once = after-slice-known5 .before .before .before .before in
+    let in-loop = after-take-once .before .before .before .before in
+    let loop = in-loop .before .loop in
+    after-take-once .take-once .kept .0 ∙ loop .inv .0
+
+same-length-5 : tie.Need-same-length-5 Inv-loop μ-loop
+same-length-5 c =
+    let after-slice-known5 = c .before .before .before .before in
+    let after-take-once = after-slice-known5 .before .before .before .before in
+    let in-loop = after-take-once .before .before .before .before in
+    let loop = in-loop .before .loop in
+    after-take-once .take-once .kept .1 .0 ∙ loop .inv .1
+
+same-length-6 : tie.Need-same-length-6 Inv-loop μ-loop
+same-length-6 c =
+    let after-slice-known5 = c .before .before .before .before in
+    let after-take-once = after-slice-known5 .before .before .before .before in
+    let in-loop = after-take-once .before .before .before .before in
+    let loop = in-loop .before .loop in
+    after-take-once .take-once .kept .1 .1 .0 ∙ loop .inv .2
+
+same-length-7 : tie.Need-same-length-7 Inv-loop μ-loop
+same-length-7 c = c .before .loop .inv .0
+
+same-length-8 : tie.Need-same-length-8 Inv-loop μ-loop
+same-length-8 c = c .before .loop .inv .1
+
+same-length-9 : tie.Need-same-length-9 Inv-loop μ-loop
+same-length-9 c = c .before .loop .inv .2
+
+pub take-input-spec : {M : Type 1} → statement M
+take-input-spec =
+    tie.close
+    (tie.spec
+    Inv-loop
+    μ-loop
+    (λ c κs. search needs)
+    loop-holds
+    take-once-requires
+    (λ c. search needs)
+    sub-turns
+    loop-less
+    loop-again
+    (λ c. search needs)
+    same-length
+    same-length-2
+    same-length-3
+    (λ c. search needs) (λ c. search needs)
+    same-length-4
+    same-length-5
+    same-length-6
+    (λ c. search needs)
+    same-length-7
+    same-length-8
+    same-length-9
+    (λ c. search needs))
