@@ -12,7 +12,7 @@ use Rattle.walk.specs.declared.Step.{Step}
 use Rattle.walk.proofs.Walks.{walk-step}
 use Rattle.reader.specs.Steps.{counted}
 use Rattle.reader.specs.declared.Count.{Count}
-use Rattle.block_reader.specs.Blocks.{nth, located}
+use Rattle.block_reader.specs.Blocks.{located}
 use Rattle.block_reader.specs.Steps.{pastBlock, afterBlocks}
 use Rattle.block_reader.specs.declared.BlockAnswer.{BlockAnswer}
 use Rattle.refusal.specs.declared.Refusal.the-variants.{NoBlock}
