@@ -7,7 +7,7 @@ use Rattle.lists.proofs.Cases.{never}
 use Rattle.refusal.specs.declared.Refusal.{Refusal}
 use Rattle.walk.specs.Walk.{stepAt, Walked, walked, stopped, inFront, onward, walkFrom}
 use Rattle.walk.specs.declared.ReportBlock.{ReportBlock}
-use Rattle.header.specs.declared.Cursor.{Cursor}
+use Rattle.packet_header.specs.declared.Cursor.{Cursor}
 use Rattle.walk.specs.declared.Step.{Step}
 use Rattle.walk.proofs.Walks.{walk-step}
 use Rattle.reader.specs.Steps.{counted}

@@ -4,8 +4,8 @@ ghost use mathlib.Core.Path.{_≡_};
 ghost use Rattle.walk.specs.Walk.{walkFrom};
 ghost use Rattle.block_reader.specs.Blocks.{located, readBlock};
 ghost use Rattle.block_reader.specs.Steps.{afterBlocks};
-use header::Cursor;
-use header::Start;
+use packet_header::Cursor;
+use packet_header::Start;
 use reader::Count;
 use refusal::Refusal;
 use walk::ReportBlock;
@@ -61,7 +61,7 @@ fn block_from(packet: &[u8], from: Cursor, k: usize) -> BlockAnswer
 pub fn block(packet: &[u8], k: usize) -> BlockAnswer
     ensures value { λ r. ⌜ r ≡ readBlock (now (packet .entry)) k ⌝ }
 {
-    let first = header::read_header(packet);
+    let first = packet_header::read_header(packet);
     match first {
         Start::At(cursor) => block_from(packet, cursor, k),
         Start::Refused(e) => BlockAnswer::Refused(e),

@@ -2,13 +2,13 @@
 -- answer, and from what stood there before.
 use Prim.Native.Nat.{ℕ}
 use mathlib.Core.List.{List, [], _∷_}
-use Rattle.header.specs.declared.Start.{Start}
+use Rattle.packet_header.specs.declared.Start.{Start}
 use Rattle.walk.specs.declared.Step.{Step}
 use Rattle.metric_part.specs.declared.PartAnswer.{PartAnswer}
 use Rattle.ccfb_calls.specs.Called.{Called, called, refusedWith, caseBehind}
 use Rattle.refusal.specs.declared.Refusal.the-variants.{NoBlock}
 use Rattle.metric_part.specs.declared.PartAnswer.the-variants as part
-use Rattle.header.specs.declared.Start.the-variants as start
+use Rattle.packet_header.specs.declared.Start.the-variants as start
 use Rattle.walk.specs.declared.Step.the-variants as step
 
 -- `ccfb_metric_at`: case, mark, offset

@@ -1,14 +1,14 @@
 // The calls for C that walk over the blocks of a packet, and over the metrics of a block: each takes one step.
 ghost use mathlib.Core.Path.{_≡_};
 ghost use mathlib.Core.List.{[], _∷_};
-ghost use Rattle.header.specs.Header.{startOf};
+ghost use Rattle.packet_header.specs.Header.{startOf};
 ghost use Rattle.walk.specs.Walk.{stepAt};
 ghost use Rattle.metric_part.specs.Part.{caseAt};
 ghost use Rattle.ccfb_calls.specs.Called.{called};
 ghost use Rattle.ccfb_walk.specs.Walk.{metricAtCalled, firstCalled, nextCalled};
-use header::Cursor;
-use header::Start;
 use metric_part::PartAnswer;
+use packet_header::Cursor;
+use packet_header::Start;
 use refusal::Refusal;
 use walk::Step;
 
@@ -18,7 +18,7 @@ pub extern "C" fn ccfb_first_block(packet: &[u8], at: &mut usize) -> u8
     ensures after { λ r. ⌜
         called r (now (at .exit) ∷ []) ≡ firstCalled (startOf (now (packet .entry))) (now (at .entry) ∷ []) ⌝ }
 {
-    let first = header::read_header(packet);
+    let first = packet_header::read_header(packet);
     match first {
         Start::At(c) => {
             *at = c.at;

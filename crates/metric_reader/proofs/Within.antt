@@ -7,7 +7,7 @@ use Rattle.lists.specs.All.{All}
 use Rattle.lists.proofs.Cases.{never}
 use Rattle.walk.specs.Walk.{stepAt, Walked, walked, stopped, walkOf}
 use Rattle.walk.specs.declared.ReportBlock.{ReportBlock}
-use Rattle.header.specs.declared.Cursor.{Cursor}
+use Rattle.packet_header.specs.declared.Cursor.{Cursor}
 use Rattle.walk.proofs.Steps.{found}
 use Rattle.walk.proofs.Walks.{walk-ind}
 use Rattle.reports.specs.Reports.{Within}

@@ -16,7 +16,7 @@ use Rattle.packet.specs.Sizes.{blockOctets}
 use Rattle.packet.proofs.Sizes.{even-octets, odd-octets}
 use Rattle.walk.specs.Walk.{rtsAt, fillerAt, blockHere, stepAt, walked, walkFrom}
 use Rattle.walk.specs.declared.ReportBlock.{ReportBlock}
-use Rattle.header.specs.declared.Cursor.{Cursor}
+use Rattle.packet_header.specs.declared.Cursor.{Cursor}
 use Rattle.walk.proofs.Steps.{found, next-room}
 use Rattle.walk.proofs.Walks.{walk-ind}
 use Rattle.reader.specs.Reading.{metricsAt, blockIn}

@@ -8,7 +8,7 @@ use Rattle.octets.specs.Octets.{be16, be32}
 use Rattle.octets.specs.Output.{outputAfter}
 use Rattle.metric.specs.Metric.{decodeOf}
 use Rattle.packet.specs.Packet.{Packet, encodeMetrics, filler, encodeBlock, encodeBlocks, encodePacket}
-use Rattle.header.specs.Header.{startOf}
+use Rattle.packet_header.specs.Header.{startOf}
 use Rattle.walk.specs.Walk.{fillerAt, stepAt, walk, walkOf}
 use Rattle.reader.specs.Reading.{packet, refused, metricsAt, decodePacket}
 use Rattle.block_reader.specs.Blocks.{readBlock}

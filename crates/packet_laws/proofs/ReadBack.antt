@@ -8,13 +8,13 @@ use Rattle.octets.specs.Octets.{octets16, octets32}
 use Rattle.packet.specs.Packet.{Block, Packet, encodeBlocks, encodePacket, Fit, reportCounts}
 use Rattle.packet.specs.Sizes.{blocksOctets, packetOctets}
 use Rattle.walk.specs.Walk.{rtsAt, walked, walkOf}
-use Rattle.header.specs.Header.{startOf}
-use Rattle.header.proofs.Starts.{sound}
+use Rattle.packet_header.specs.Header.{startOf}
+use Rattle.packet_header.proofs.Starts.{sound}
 use Rattle.reader.specs.Reading.{packet, decodePacket}
 use Rattle.reader.proofs.Answers.{start-at}
 use Rattle.packet_laws.specs.Asked.{laid}
 use Rattle.packet_laws.proofs.Here.{length-here, one-here, here-16, here-32, here-blocks}
-use Rattle.header.specs.declared.Start.the-variants.{At}
+use Rattle.packet_header.specs.declared.Start.the-variants.{At}
 
 blocks-words : (bs : List Block) → blocksOctets (reportCounts bs) % 4 ≡ 0
 blocks-words [] = refl

@@ -12,14 +12,14 @@ use Rattle.octets.specs.Output.{OutputAfter, outputAfter}
 use Rattle.packet.specs.Packet.{Packet}
 use Rattle.packet.specs.Sizes.{mostReports, blockOctets}
 use Rattle.packet.proofs.Sizes.{even-octets, odd-octets}
-use Rattle.header.specs.Header.{versionOf, paddingOf, formatOf, typeOf, lengthOf, startOf}
+use Rattle.packet_header.specs.Header.{versionOf, paddingOf, formatOf, typeOf, lengthOf, startOf}
 use Rattle.walk.specs.Walk.{rtsAt, fillerAt, blockHere, stepAt}
 use Rattle.walk.specs.Walk.{Walked, walked, stopped, inFront, onward, walk, walkFrom, started, walkOf}
 use Rattle.walk.specs.declared.ReportBlock.{ReportBlock}
-use Rattle.header.specs.declared.Cursor.{Cursor}
-use Rattle.header.specs.declared.Start.{Start}
+use Rattle.packet_header.specs.declared.Cursor.{Cursor}
+use Rattle.packet_header.specs.declared.Start.{Start}
 use Rattle.walk.specs.declared.Step.{Step}
-use Rattle.header.proofs.Starts.{too-short, bad-version, bad-type, bad-format, bad-length, padded, sound, sound-header}
+use Rattle.packet_header.proofs.Starts.{too-short, bad-version, bad-type, bad-format, bad-length, padded, sound, sound-header}
 use Rattle.walk.proofs.Steps.{step-end, step-no-header, step-many, step-overrun, step-filler, step-found, found, next-at, next-room}
 use Rattle.walk.proofs.Walks.{walk-block, walk-end, walk-refused, walk-ind}
 use Rattle.reports.specs.Reports.{reportedIn}
@@ -37,7 +37,7 @@ use Rattle.packet_laws.proofs.Asked.{accepted, accepted-octets, metric-
 use Rattle.refusal.specs.declared.Refusal.the-variants.{OutputTooShort, PacketTooShort, BadVersion, BadType, BadLength, Padded}
 use Rattle.refusal.specs.declared.Refusal.the-variants.{RunsIntoRts, TooManyReports, FillerNotZero, NoBlock, NoNumber}
 use Rattle.packet.specs.Packet as form
-use Rattle.header.specs.declared.Start.the-variants as start
+use Rattle.packet_header.specs.declared.Start.the-variants as start
 use Rattle.walk.specs.declared.Step.the-variants.{Block, End, Refused}
 use Rattle.reader.specs.declared.Reading.the-variants as reading
 use Rattle.block_reader.specs.declared.BlockAnswer.the-variants as answer

@@ -8,7 +8,7 @@ use Rattle.refusal.specs.declared.Refusal.{Refusal}
 use Rattle.octets.specs.Octets.{be16}
 use Rattle.packet.specs.Packet.{Packet, version, format, packetType}
 use Rattle.packet.specs.Sizes.{mostReports, packetHeaderOctets, blockHeaderOctets, packetFrame, blockOctets}
-use Rattle.header.specs.Header.{versionOf, paddingOf, formatOf, typeOf, lengthOf}
+use Rattle.packet_header.specs.Header.{versionOf, paddingOf, formatOf, typeOf, lengthOf}
 use Rattle.walk.specs.Walk.{rtsAt}
 use Rattle.reader.specs.Reading.{packet, decodePacket}
 use Rattle.packet_laws.specs.Asked.{metricsOf}

@@ -38,7 +38,7 @@ fn write_packet(
     let end = b.octets;
     let rest = b.rest;
     octets_put::put32(out, end, rts);
-    header_put::put_header(out, end + RTS_OCTETS, sender);
+    packet_put::put_header(out, end + RTS_OCTETS, sender);
     Progress {
         rest: rest,
         octets: end + RTS_OCTETS,

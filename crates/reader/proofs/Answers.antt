@@ -9,17 +9,17 @@ use Rattle.lists.proofs.Cases.{never}
 use Rattle.refusal.specs.declared.Refusal.{Refusal}
 use Rattle.octets.specs.Octets.{be32}
 use Rattle.walk.specs.Walk.{rtsAt, stepAt, Walked, walked, stopped, inFront, walkFrom, started, walkOf}
-use Rattle.header.specs.Header.{startOf}
+use Rattle.packet_header.specs.Header.{startOf}
 use Rattle.walk.specs.declared.ReportBlock.{ReportBlock}
-use Rattle.header.specs.declared.Cursor.{Cursor}
-use Rattle.header.specs.declared.Start.{Start}
+use Rattle.packet_header.specs.declared.Cursor.{Cursor}
+use Rattle.packet_header.specs.declared.Start.{Start}
 use Rattle.walk.specs.declared.Step.{Step}
-use Rattle.header.proofs.Starts.{SoundHeader, sound-header}
+use Rattle.packet_header.proofs.Starts.{SoundHeader, sound-header}
 use Rattle.walk.proofs.Walks.{walk-block, walk-end, walk-refused}
 use Rattle.reader.specs.Reading.{refused, decoded, decodePacket, readOf, metricsAt}
 use Rattle.reader.specs.Steps.{counted}
 use Rattle.reader.specs.declared.Count.{Count}
-use Rattle.header.specs.declared.Start.the-variants as start
+use Rattle.packet_header.specs.declared.Start.the-variants as start
 use Rattle.walk.specs.declared.Step.the-variants.{Block, End, Refused}
 use Rattle.reader.specs.declared.Count.the-variants.{Blocks, Stopped}
 use Rattle.reader.specs.declared.Reading.the-variants as reading

@@ -3,10 +3,10 @@ ghost use mathlib.Core.Path.{_≡_};
 ghost use Rattle.walk.specs.Walk.{walkFrom, walkOf};
 ghost use Rattle.reader.specs.Reading.{decodePacket, readOf};
 ghost use Rattle.reader.specs.Steps.{counted};
-use header::Cursor;
-use header::Start;
 use packet::RTS_OCTETS;
 use packet::SENDER_AT;
+use packet_header::Cursor;
+use packet_header::Start;
 use refusal::Refusal;
 use walk::Step;
 
@@ -49,7 +49,7 @@ pub fn count_blocks_from(packet: &[u8], from: Cursor) -> Count
 pub fn count_blocks(packet: &[u8]) -> Count
     ensures value { λ r. ⌜ r ≡ counted 0 (walkOf (now (packet .entry))) ⌝ }
 {
-    let first = header::read_header(packet);
+    let first = packet_header::read_header(packet);
     match first {
         Start::At(cursor) => count_blocks_from(packet, cursor),
         Start::Refused(e) => Count::Stopped(e),

@@ -15,7 +15,7 @@ use Rattle.packet.specs.Sizes.{blockOctets, blocksOctets, packetOctets}
 use Rattle.packet.proofs.Sizes.{length-metrics, length-block, length-blocks}
 use Rattle.walk.specs.Walk.{rtsAt, stepAt, walked, walkFrom, walkOf}
 use Rattle.walk.specs.declared.ReportBlock.{ReportBlock}
-use Rattle.header.specs.declared.Cursor.{Cursor}
+use Rattle.packet_header.specs.declared.Cursor.{Cursor}
 use Rattle.walk.specs.declared.Step.{Step}
 use Rattle.walk.proofs.Steps.{step-end, found, next-at, next-more, next-room}
 use Rattle.walk.proofs.Walks.{walk-ind}

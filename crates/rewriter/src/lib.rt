@@ -9,11 +9,11 @@ ghost use Rattle.packet.specs.Packet.{encodeBlock};
 ghost use Rattle.reader.specs.Reading.{blockIn, decodePacket};
 ghost use Rattle.rewriter.specs.Rewrite.{rewriteBlock, rewriteOf};
 ghost use Rattle.rewriter.specs.Steps.{rewrittenFrom};
-use header::Cursor;
 use packet::BLOCK_HEADER_OCTETS;
 use packet::PACKET_HEADER_OCTETS;
 use packet::RTS_OCTETS;
 use packet::SENDER_AT;
+use packet_header::Cursor;
 use reader::Count;
 use refusal::Refusal;
 use walk::ReportBlock;
@@ -75,7 +75,7 @@ pub fn rewrite(packet: &[u8], out: &mut [u8]) -> Rewriting
         return Rewriting::Refused(Refusal::OutputTooShort);
     }
     let rts = size - RTS_OCTETS;
-    header_put::put_header(out, size, octets::get32(packet, SENDER_AT));
+    packet_put::put_header(out, size, octets::get32(packet, SENDER_AT));
     rewrite_blocks(
         packet,
         out,

@@ -11,7 +11,7 @@ use Rattle.octets.specs.Octets.{be16}
 use Rattle.packet.specs.Sizes.{mostReports, blockOctets}
 use Rattle.walk.specs.Walk.{rtsAt, fillerAt, blockHere, blockOf, stepAt}
 use Rattle.walk.specs.declared.ReportBlock.{ReportBlock}
-use Rattle.header.specs.declared.Cursor.{Cursor}
+use Rattle.packet_header.specs.declared.Cursor.{Cursor}
 use Rattle.walk.specs.declared.Step.{Step}
 use Rattle.refusal.specs.declared.Refusal.the-variants.{RunsIntoRts, TooManyReports, FillerNotZero}
 use Rattle.walk.specs.declared.Step.the-variants.{Block, End, Refused}

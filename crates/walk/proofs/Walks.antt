@@ -8,7 +8,7 @@ use Rattle.lists.proofs.Cases.{never}
 use Rattle.refusal.specs.declared.Refusal.{Refusal}
 use Rattle.walk.specs.Walk.{rtsAt, stepAt, Walked, walked, stopped, inFront, onward, walk, walkFrom}
 use Rattle.walk.specs.declared.ReportBlock.{ReportBlock}
-use Rattle.header.specs.declared.Cursor.{Cursor}
+use Rattle.packet_header.specs.declared.Cursor.{Cursor}
 use Rattle.walk.specs.declared.Step.{Step}
 use Rattle.walk.proofs.Steps.{step-end, next-more, ended}
 use Rattle.walk.specs.declared.Step.the-variants.{Block, End, Refused}

@@ -8,13 +8,13 @@ use lib.ListN.{length}
 use lib.Dec.{eqb, ltb, leb}
 use Rattle.refusal.specs.declared.Refusal.{Refusal}
 use Rattle.octets.specs.Octets.{be16, be32}
-use Rattle.header.specs.Header.{differ, startOf}
+use Rattle.packet_header.specs.Header.{differ, startOf}
 use Rattle.packet.specs.Sizes.{mostReports, blockHeaderOctets, rtsOctets, blockOctets}
 use Rattle.walk.specs.declared.ReportBlock.{ReportBlock}
-use Rattle.header.specs.declared.Start.{Start}
+use Rattle.packet_header.specs.declared.Start.{Start}
 use Rattle.walk.specs.declared.Step.{Step}
 use Rattle.refusal.specs.declared.Refusal.the-variants.{RunsIntoRts, TooManyReports, FillerNotZero}
-use Rattle.header.specs.declared.Start.the-variants as start
+use Rattle.packet_header.specs.declared.Start.the-variants as start
 use Rattle.walk.specs.declared.Step.the-variants.{Block, End, Refused}
 
 -- ---- the block at an offset

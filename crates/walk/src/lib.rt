@@ -4,10 +4,10 @@ ghost use Prim.Native.Nat.{_+_, _≤_};
 ghost use lib.ListN.{length};
 ghost use Rattle.packet.specs.Sizes.{blockOctets};
 ghost use Rattle.walk.specs.Walk.{fillerAt, stepAt};
-use header::Cursor;
 use packet::BLOCK_HEADER_OCTETS;
 use packet::MOST_REPORTS;
 use packet::RTS_OCTETS;
+use packet_header::Cursor;
 use refusal::Refusal;
 
 // A report block of a packet: it reports num_reports numbers, starting at begin_seq, and their metrics stand at the

@@ -1,6 +1,6 @@
 -- `ccfb_walk::ccfb_first_block` meets its contract. Assumes nothing.
 use mathlib.Core.List.{[], _∷_}
-use Rattle.header.specs.declared.Start.{Start}
+use Rattle.packet_header.specs.declared.Start.{Start}
 use Rattle.ccfb_calls.proofs.Told.{told}
 use Rattle.ccfb_walk.specs.Walk.{firstCalled}
 use borrow.Author.Needs.{needs}

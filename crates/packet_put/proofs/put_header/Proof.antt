@@ -1,12 +1,12 @@
--- `header_put::put_header` meets its contract: three writes, back to back. Assumes nothing.
+-- `packet_put::put_header` meets its contract: three writes, back to back. Assumes nothing.
 use Prim.Native.Nat.{_-_, _/_}
 use mathlib.Core.Path.{refl}
 use mathlib.Core.List.{_++_}
 use Rattle.octets.specs.Octets.{octets16, octets32}
 use Rattle.octets.proofs.Sets.{sets-twice}
 use borrow.Author.Needs.{needs}
-use Rattle.header_put.proofs.put_header.Statement.{statement}
-use Rattle.header_put.proofs.put_header.Tie as tie
+use Rattle.packet_put.proofs.put_header.Statement.{statement}
+use Rattle.packet_put.proofs.put_header.Tie as tie
 
 returns : tie.Need-returns
 returns c =

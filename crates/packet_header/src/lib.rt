@@ -1,6 +1,6 @@
 // The header of a CCFB packet, which may be any octets: a walk over the blocks starts behind it.
 ghost use mathlib.Core.Path.{_≡_};
-ghost use Rattle.header.specs.Header.{startOf};
+ghost use Rattle.packet_header.specs.Header.{startOf};
 use packet::FORMAT;
 use packet::PACKET_FRAME;
 use packet::PACKET_HEADER_OCTETS;

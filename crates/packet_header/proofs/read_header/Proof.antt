@@ -1,9 +1,9 @@
--- `header::read_header` meets its contract. Assumes nothing.
+-- `packet_header::read_header` meets its contract. Assumes nothing.
 use native.Mathlib.Omega.{arith}
 use borrow.Author.Needs.{needs}
-use Rattle.header.proofs.Starts.{too-short, bad-version, bad-type, bad-format, bad-length, padded, sound}
-use Rattle.header.proofs.read_header.Statement.{statement}
-use Rattle.header.proofs.read_header.Tie as tie
+use Rattle.packet_header.proofs.Starts.{too-short, bad-version, bad-type, bad-format, bad-length, padded, sound}
+use Rattle.packet_header.proofs.read_header.Statement.{statement}
+use Rattle.packet_header.proofs.read_header.Tie as tie
 
 returns : tie.Need-returns
 returns c = too-short _ (omega arith)

@@ -8,9 +8,9 @@ use lib.Dec.{eqb, ltb}
 use Rattle.octets.specs.Octets.{be16}
 use Rattle.packet.specs.Packet.{version, format, packetType, versionUnit, paddingUnit}
 use Rattle.packet.specs.Sizes.{wordOctets, packetHeaderOctets, packetFrame}
-use Rattle.header.specs.declared.Start.{Start}
+use Rattle.packet_header.specs.declared.Start.{Start}
 use Rattle.refusal.specs.declared.Refusal.the-variants.{PacketTooShort, BadVersion, BadType, BadLength, Padded}
-use Rattle.header.specs.declared.Start.the-variants.{At, Refused}
+use Rattle.packet_header.specs.declared.Start.the-variants.{At, Refused}
 
 abbrev pub differ : ℕ → ℕ → Bool
 differ a b = not (eqb a b)

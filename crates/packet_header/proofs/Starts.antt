@@ -6,9 +6,9 @@ use borrow.Author.Tests.{lt-ltb, le-ltb, eq-eqb, ne-eqb}
 use lib.ListN.{length}
 use Rattle.refusal.specs.declared.Refusal.the-variants.{PacketTooShort, BadVersion, BadType, BadLength, Padded}
 use Rattle.lists.proofs.Cases.{never, split-le, split-eq}
-use Rattle.header.specs.Header.{versionOf, paddingOf, formatOf, typeOf, lengthOf, startOf}
-use Rattle.header.specs.declared.Cursor.{Cursor}
-use Rattle.header.specs.declared.Start.the-variants.{At, Refused}
+use Rattle.packet_header.specs.Header.{versionOf, paddingOf, formatOf, typeOf, lengthOf, startOf}
+use Rattle.packet_header.specs.declared.Cursor.{Cursor}
+use Rattle.packet_header.specs.declared.Start.the-variants.{At, Refused}
 
 module _ (s : List ℕ) where
   pub too-short : length s < 12 → Refused PacketTooShort ≡ startOf s
