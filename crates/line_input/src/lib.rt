@@ -46,7 +46,7 @@ fn take_once(places: &mut [u64], cells: &mut [u64], buf: &mut [u8], intake: Inta
 }
 
 // Takes the input, of any length. A proved loop has to end, and nothing says that an input does: the turns count down
-// from a number that no run uses up.
+// from a number that no run uses up. The contract says that this is safe and ends, and nothing of what is taken.
 pub fn take_input(places: &mut [u64], cells: &mut [u64], buf: &mut [u8]) -> Input
     requires room { ⌜ bufferOctets ≤ length (now buf) ⌝ }
 {

@@ -16,6 +16,7 @@ use Rattle.reports.specs.declared.MetricAnswer.the-variants.{Reported, R
 pub record Within (s : List ℕ) (b : ReportBlock) : Type 0 where
   pub room : b .«metrics_at» + 2 * b .«num_reports» ≤ length s
 
+-- the number of metric j is j more than begin_seq, and 0 follows 65535
 abbrev pub reportedIn : ReportBlock → List ℕ → ℕ → MetricAnswer
 reportedIn b s j =
     cond (leb (b .«num_reports») j) (Refused NoNumber)
