@@ -52,7 +52,7 @@ record Leaves (room : ℕ) (w bs : List CutBlock) : Type 0 where
   ahead : Ahead (filledFrom room w .rest) v
 
 -- a packet ends where it has reported a part of a request
-ends : (rs : List Request) {a : CutBlock} {w : List CutBlock} (bs : List CutBlock) (b : CutBlock) (p : CutPacket)
+pub ends : (rs : List Request) {a : CutBlock} {w : List CutBlock} (bs : List CutBlock) (b : CutBlock) (p : CutPacket)
     → b .request ≡ a .request → All (λ d. streamOf rs (b .request) ≢ streamOf rs (d .request)) p
     → Split (a ∷ w) (p ++ bs) → p ≡ []
 ends rs bs b [] e o s = refl

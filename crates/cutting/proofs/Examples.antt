@@ -8,6 +8,7 @@ use Rattle.lists.specs.All.{All}
 use Rattle.packet.specs.Sizes.{packetOctets}
 use Rattle.cutting.specs.declared.Request.{Request}
 use Rattle.cutting.specs.Cutting.{CutBlock, Cutting, numbersFrom, numbersReported, RangeRules, PacketRules, Cuts, CutPacket, counts}
+use Rattle.cutting.specs.Filling.{FilledUp}
 use Rattle.cutting.specs.Plan.{nextBlock, filledFrom, packetsFrom, plan}
 
 -- five numbers starting at 65534, and three starting at 0
@@ -95,3 +96,8 @@ others-cut = (
 pub others-longer : (length (plan 56 three) ≡ 1) × (map length (by-request ∷ by-number ∷ slack ∷ []) ≡ 3 ∷ 6 ∷ 2 ∷ [])
 unfolding three block by-request by-number slack nextBlock filledFrom packetsFrom
 others-longer = (refl, refl)
+
+-- and they are not filled up
+pub others-not-filled : All (λ c. FilledUp 56 c → ⊥) (by-request ∷ by-number ∷ slack ∷ [])
+unfolding block by-request by-number slack
+others-not-filled = (λ f. omega (arith, f .0), (λ f. omega (arith, f .0), (λ f. omega (arith, f .0), tt)))

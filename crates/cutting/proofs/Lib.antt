@@ -4,5 +4,6 @@ pub mod Split
 pub mod Ahead
 pub mod FromRules
 pub mod ToRules
+pub mod Filling
 pub mod Theorems
 pub mod Examples

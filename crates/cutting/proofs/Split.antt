@@ -22,3 +22,6 @@ split-head (part e p q s) = ap (λ (x : CutBlock). x .request) e
 
 pub split-nil : {w : List CutBlock} → Split w [] → w ≡ []
 split-nil done = refl
+
+pub split-none : {b : CutBlock} {bs : List CutBlock} → Split [] (b ∷ bs) → ⊥
+split-none = elim [ ]

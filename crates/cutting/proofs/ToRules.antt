@@ -138,14 +138,14 @@ filled-once rs room n (b ∷ w) d l c =
     (λ h k. tt)
 
 -- what is left is counted on
-filled-counted : (room n : ℕ) (w : List CutBlock) → Counted n w
-    → (m : ℕ) × Counted m (filledFrom room w .rest) × (m + length (filledFrom room w .rest) ≡ n + length w)
-filled-counted room n [] c = rw (filled-none room) (n, tt, refl)
+pub filled-counted : (room n : ℕ) (w : List CutBlock) → Counted n w
+    → (m : ℕ) × Counted m (filledFrom room w .rest) × (m + length (filledFrom room w .rest) ≡ n + length w) × (n ≤ m)
+filled-counted room n [] c = rw (filled-none room) (n, tt, refl, omega arith)
 filled-counted room n (b ∷ w) c =
-    filled-cases (λ f. (m : ℕ) × Counted m (f .rest) × (m + length (f .rest) ≡ n + suc (length w))) room b w
-    (λ h. let r = filled-counted (room - blockOctets (b .count)) (suc n) w (c .1) in (r .0, r .1, omega (arith, r .2)))
-    (λ h k. (n, (c .0, c .1), refl))
-    (λ h k. (n, c, refl))
+    filled-cases (λ f. (m : ℕ) × Counted m (f .rest) × (m + length (f .rest) ≡ n + suc (length w)) × (n ≤ m)) room b w
+    (λ h. let r = filled-counted (room - blockOctets (b .count)) (suc n) w (c .1) in (r .0, r .1, omega (arith, r .2), omega (arith, r .3)))
+    (λ h k. (n, (c .0, c .1), refl, omega arith))
+    (λ h k. (n, c, refl, omega arith))
 
 packets-split : (fuel limit : ℕ) (w : List CutBlock) → leastLimit ≤ limit → mostPackets w ≤ fuel → Split w (allBlocks (packetsFrom fuel limit w))
 unfolding packetsFrom

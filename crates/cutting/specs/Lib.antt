@@ -1,3 +1,4 @@
 pub mod Limits
 pub mod Cutting
+pub mod Filling
 pub mod Plan

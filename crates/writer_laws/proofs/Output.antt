@@ -3,7 +3,7 @@ use mathlib.Core.Path.{_≡_, refl, sym, ap, ap₂, _∙_, subst}
 use mathlib.Core.List.{List, [], _∷_, _++_, map}
 use Prim.Native.Nat.{ℕ, zero, suc, _+_, _%_, _^_, _≤_, _<_}
 use native.Mathlib.Omega.{arith}
-use lib.ListN.{length, take, drop, getD, length-append}
+use lib.ListN.{length, take, drop, getD, length-append, length-map}
 use lib.Seq.{take-at, drop-at}
 use borrow.Author.Tests.{eq-eqb, ne-eqb, lt-leb}
 use Rattle.lists.specs.All.{All}
@@ -20,10 +20,10 @@ use Rattle.cells.specs.Cell.{readCell}
 use Rattle.cell_metrics.specs.Metrics.{cellMetric}
 use Rattle.packet.specs.Sizes.{blocksOctets}
 use Rattle.packet.proofs.Sizes.{length-packet}
-use Rattle.walk.specs.Walk.{Walked}
+use Rattle.walk.specs.Walk.{Walked, walkOf}
 use Rattle.walk.specs.declared.ReportBlock.{ReportBlock}
 use Rattle.reports.specs.declared.MetricAnswer.{MetricAnswer}
-use Rattle.reader.specs.Reading.{Decoded, decodePacket}
+use Rattle.reader.specs.Reading.{Decoded, decodePacket, readOf}
 use Rattle.block_reader.specs.Blocks.{nth, located}
 use Rattle.packet_laws.specs.Asked.{laidBlock, laid, blockMetric, packetMetric}
 use Rattle.packet_laws.proofs.Asked.{metric-asked}
@@ -35,10 +35,11 @@ use Rattle.cutting.proofs.Plan.{after-sum}
 use Rattle.cutting.proofs.ToRules.{elsewhere}
 use Rattle.blocks.specs.Packets.{storeMetricAt, reportBlock, reportPacket, encodePackets}
 use Rattle.report_block.proofs.Metrics.{length-of}
-use Rattle.writer_laws.specs.Read.{firstOctets, walkLengths, packetsIn, requestOf, blockRead, blocksRead, cuttingRead, seenAt, MetricsRead}
+use Rattle.writer_laws.specs.Read.{firstOctets, walkLengths, packetsIn, requestOf, blockRead, blocksRead, cuttingRead, PacketRead, seenAt, MetricsRead}
 use Rattle.writer_laws.proofs.Small.{Small, metricAsked}
 use Rattle.lists.specs.declared.Found.the-variants.{At, Nothing}
 use Rattle.packet.specs.Packet as packet
+use Rattle.reader.specs.declared.Reading.the-variants as reading
 use Rattle.block_reader.specs.declared.BlockAnswer.the-variants as answer
 use Rattle.reports.specs.declared.MetricAnswer.the-variants as asked
 
@@ -88,6 +89,18 @@ packets-in ps = walk-packets ps (length (encodePackets ps)) (few-packets ps)
 pub all-accepted : (ps : List packet.Packet) → All packet.Fit ps → map decodePacket (map packet.encodePacket ps) ≡ map Decoded.packet ps
 all-accepted [] f = refl
 all-accepted (p ∷ ps) f = ap₂ (λ (d : Decoded) (ds : List Decoded). d ∷ ds) (read-back p (f .0)) (all-accepted ps (f .1))
+
+-- the reader's answer about it
+length-laid : (at : ℕ) (bs : List packet.Block) → length (laid at bs) ≡ length bs
+unfolding laid
+length-laid at [] = refl
+length-laid at (b ∷ bs) = ap suc (length-laid _ bs)
+
+pub packet-read : (rs : List Request) (p : packet.Packet) → packet.Fit p → PacketRead (p .sender) (p .rts) rs (packet.encodePacket p)
+packet-read rs p f =
+    let n = length-map (laid 8 (p .blocks)) (blockRead rs) ∙ length-laid 8 (p .blocks) in
+    let e = ap (λ (w : Walked). length (blocksRead rs w)) (walk-back p f) ∙ n in
+    ap readOf (read-back p f) ∙ ap (reading.Accepted (p .sender) (p .rts)) (sym e)
 
 -- ---- the blocks, as those of requests
 

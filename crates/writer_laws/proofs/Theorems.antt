@@ -10,17 +10,20 @@ use Rattle.lists.specs.All.{All}
 use Rattle.lists.proofs.All.{all-map, all-zip, all-over}
 use Rattle.octets.specs.Output.{OutputAfter}
 use Rattle.reader.specs.Reading.{decodePacket}
+use Rattle.cutting.specs.Cutting.{CutPacket}
 use Rattle.cutting.specs.Plan.{plan, totalOctets}
 use Rattle.cutting.specs.declared.Request.{Request}
-use Rattle.cutting.proofs.Theorems.{plan-cuts, plan-fewest}
+use Rattle.cutting.proofs.Theorems.{plan-cuts, plan-fewest, plan-filled}
+use Rattle.cutting.proofs.ToRules.{rounded}
 use Rattle.blocks.specs.Packets.{reportPacket, encodePackets, packetsFor}
+use Rattle.packets.proofs.Packets.{length-report}
 use Rattle.writer.specs.Written.{written}
 use Rattle.sound_writer.specs.declared.Answer.{Answer}
-use Rattle.writer_laws.specs.Read.{packetsIn, MetricsRead, InBits, Report}
+use Rattle.writer_laws.specs.Read.{packetsIn, PacketRead, WithinLimit, MetricsRead, InBits, Report}
 use Rattle.writer_laws.proofs.Requests.{sound-different, sound-counts}
 use Rattle.writer_laws.proofs.Refusals.{length-octets, WritingAccepted, accepted-written, accepted}
 use Rattle.writer_laws.proofs.Small.{Fits, metricAsked, plan-small, report-fits}
-use Rattle.writer_laws.proofs.Output.{packets-in, all-accepted, cutting-read, metrics-read}
+use Rattle.writer_laws.proofs.Output.{packets-in, all-accepted, packet-read, cutting-read, metrics-read}
 use Rattle.packet.specs.Packet as packet
 use Rattle.sound_writer.specs.declared.Answer.the-variants.{Written}
 
@@ -54,11 +57,15 @@ module _ (places cells : List ℕ) (sender rts limit n : ℕ) (rs : List Request
         plan-small limit rs (is .0 .proper .least)
         (all-zip rs (λ r b k. (omega (arith, b .1), k)) (bits .request-bits) (sound-counts places (is .0 .requests)))
 
+    -- what is written of a packet of the plan
+    abbrev answer : CutPacket → packet.Packet
+    answer = reportPacket (metricAsked places cells sender rts rs streams) rs sender rts
+
+    answer-fits : (q : CutPacket) → Fits limit q → packet.Fit (answer q)
+    answer-fits q f = report-fits places cells sender rts rs streams limit q (bits .sender-bits) (bits .rts-bits) (is .0 .proper .most) f
+
     fit : All packet.Fit packets
-    fit =
-        all-over packet.Fit (reportPacket (metricAsked places cells sender rts rs streams) rs sender rts) (plan limit rs)
-        (all-map (plan limit rs) (λ q f. report-fits places cells sender rts rs streams limit q (bits .sender-bits) (bits .rts-bits) (is .0 .proper .most) f)
-        small)
+    fit = all-over packet.Fit answer (plan limit rs) (all-map (plan limit rs) answer-fits small)
 
     size : length (encodePackets packets) ≡ o
     size = length-octets places cells sender rts limit n rs out ∙ sym (is .2)
@@ -69,22 +76,23 @@ module _ (places cells : List ℕ) (sender rts limit n : ℕ) (rs : List Request
     room : o ≤ length out
     room = omega (arith, is .0 .room, size)
 
-    read : All (λ q. MetricsRead places cells rts (packet.encodePacket q)) packets
-    read =
-        all-over (λ q. MetricsRead places cells rts (packet.encodePacket q))
-        (reportPacket (metricAsked places cells sender rts rs streams) rs sender rts) (plan limit rs)
-        (all-map (plan limit rs)
-        (λ q f.
-        metrics-read places cells sender rts rs streams q (f .blocks)
-        (report-fits places cells sender rts rs streams limit q (bits .sender-bits) (bits .rts-bits) (is .0 .proper .most) f))
-        small)
-
     -- the reported octets are the packets
     pub reported : take o output ≡ encodePackets packets
     reported = ap (take o) content ∙ front (encodePackets packets) out o size room
 
     found : packetsIn (take o output) ≡ map packet.encodePacket packets
     found = ap packetsIn reported ∙ packets-in packets
+
+    -- what holds of the octets of each packet of the plan holds of each packet found
+    each : (P : List ℕ → Type 0) → ((q : CutPacket) → Fits limit q → P (packet.encodePacket (answer q))) → All P (packetsIn (take o output))
+    each P h =
+        rw found (all-over P packet.encodePacket packets
+        (all-over (λ q. P (packet.encodePacket q)) answer (plan limit rs) (all-map (plan limit rs) h small)))
+
+    within : (q : CutPacket) → Fits limit q → WithinLimit limit (packet.encodePacket (answer q))
+    within q f =
+        let e = length-report (metricAsked places cells sender rts rs streams) rs sender rts q in
+        (omega (arith, e, f .octets), omega (arith, e, rounded q .0 (f .octets)))
 
     pub report : Report places cells sender rts limit rs out output p o
     report =
@@ -96,8 +104,11 @@ module _ (places cells : List ℕ) (sender rts limit n : ℕ) (rs : List Request
           past = ap (drop o) content ∙ behind (encodePackets packets) out o size room;
           count = ap length found ∙ length-map packets packet.encodePacket ∙ length-map (plan limit rs) _ ∙ sym (is .1);
           accepts = ap (map decodePacket) found ∙ all-accepted packets fit;
+          sender-rts = each (PacketRead sender rts rs) (λ q f. packet-read rs (answer q) (answer-fits q f));
+          limited = each (WithinLimit limit) within;
           cuts = rw (found, r) k;
           cut-count = rw (found, r) (sym (is .1));
           fewest = λ c h. omega (arith, is .1, plan-fewest limit rs c h);
-          metrics = rw found (all-over (MetricsRead places cells rts) packet.encodePacket packets read);
+          filled-up = rw (found, r) (plan-filled limit rs (is .0 .proper .least));
+          metrics = each (MetricsRead places cells rts) (λ q f. metrics-read places cells sender rts rs streams q (f .blocks) (answer-fits q f));
         }

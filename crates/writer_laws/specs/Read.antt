@@ -17,14 +17,16 @@ use Rattle.place_window.specs.Window.{cellAt}
 use Rattle.cells.specs.Cell.{readCell}
 use Rattle.walk.specs.Walk.{Walked, walked, stopped, walkOf}
 use Rattle.walk.specs.declared.ReportBlock.{ReportBlock}
-use Rattle.reader.specs.Reading.{Decoded, decodePacket}
+use Rattle.reader.specs.Reading.{Decoded, decodePacket, readOf}
 use Rattle.block_reader.specs.Blocks.{located}
 use Rattle.metric_reader.specs.Metrics.{reportedOf}
-use Rattle.cutting.specs.Cutting.{CutBlock, CutPacket, Cutting, Cuts}
+use Rattle.cutting.specs.Cutting.{CutBlock, CutPacket, Cutting, Cuts, roundedDown}
+use Rattle.cutting.specs.Filling.{FilledUp}
 use Rattle.cutting.specs.declared.Request.{Request}
 use Rattle.blocks.specs.Packets.{packetsFor}
 use Rattle.metric.specs.declared.Metric.the-variants.{NotReceived}
 use Rattle.lists.specs.declared.Found.the-variants.{At, Nothing}
+use Rattle.reader.specs.declared.Reading.the-variants as reading
 use Rattle.block_reader.specs.declared.BlockAnswer.the-variants as answer
 use Rattle.reports.specs.declared.MetricAnswer.the-variants as asked
 
@@ -63,6 +65,16 @@ blocksRead rs (stopped e) = []
 abbrev pub cuttingRead : List Request → List (List ℕ) → Cutting
 cuttingRead rs ps = map (λ (s : List ℕ). blocksRead rs (walkOf s)) ps
 
+-- ---- each packet as a whole
+
+-- asking the packet s answers this sender and this RTS, and as many blocks as its packet of the cutting has
+abbrev pub PacketRead : ℕ → ℕ → List Request → List ℕ → Type 0
+PacketRead sender rts rs s = readOf (decodePacket s) ≡ reading.Accepted sender rts (length (blocksRead rs (walkOf s)))
+
+-- it has at most `limit` octets, and at most the limit rounded down to a multiple of 4
+abbrev pub WithinLimit : ℕ → List ℕ → Type 0
+WithinLimit limit s = (length s ≤ limit) × (length s ≤ roundedDown limit)
+
 -- ---- metrics
 
 -- what is seen of a number of a stream at RTS: what its cell says
@@ -100,10 +112,17 @@ pub record Report (places cells : List ℕ) (sender rts limit : ℕ) (rs : List 
   pub count : length (packetsIn (take o exit)) ≡ p
   -- the reader accepts each, as the plan's packet with the metrics of the store
   pub accepts : map decodePacket (packetsIn (take o exit)) ≡ map Decoded.packet (packetsFor places cells sender rts limit rs)
+  -- the reader answers the given sender and RTS for each
+  pub sender-rts : All (PacketRead sender rts rs) (packetsIn (take o exit))
+  -- none is over the limit
+  pub limited : All (WithinLimit limit) (packetsIn (take o exit))
   -- their blocks are a cutting of the requests, with just p packets
   pub cuts : Cuts limit rs (cuttingRead rs (packetsIn (take o exit)))
   pub cut-count : length (cuttingRead rs (packetsIn (take o exit))) ≡ p
   -- and no cutting has fewer
   pub fewest : (c : Cutting) → Cuts limit rs c → p ≤ length c
+  -- each packet takes the next numbers, or the next empty block, as long as the room left holds one more: what a
+  -- packet begins with did not fit in the packet before
+  pub filled-up : FilledUp limit (cuttingRead rs (packetsIn (take o exit)))
   -- each metric read back is that of its number in the store at RTS
   pub metrics : All (MetricsRead places cells rts) (packetsIn (take o exit))
