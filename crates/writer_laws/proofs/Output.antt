@@ -20,7 +20,7 @@ use Rattle.cells.specs.Cell.{readCell}
 use Rattle.cell_metrics.specs.Metrics.{cellMetric}
 use Rattle.packet.specs.Sizes.{blocksOctets}
 use Rattle.packet.proofs.Sizes.{length-packet}
-use Rattle.walk.specs.Walk.{Walked, walkOf}
+use Rattle.walk.specs.Walk.{Walked}
 use Rattle.walk.specs.declared.ReportBlock.{ReportBlock}
 use Rattle.reports.specs.declared.MetricAnswer.{MetricAnswer}
 use Rattle.reader.specs.Reading.{Decoded, decodePacket, readOf}
@@ -90,7 +90,7 @@ pub all-accepted : (ps : List packet.Packet) → All packet.Fit ps → map decod
 all-accepted [] f = refl
 all-accepted (p ∷ ps) f = ap₂ (λ (d : Decoded) (ds : List Decoded). d ∷ ds) (read-back p (f .0)) (all-accepted ps (f .1))
 
--- the reader's answer about it
+-- its answer about each: sender, RTS and number of blocks
 length-laid : (at : ℕ) (bs : List packet.Block) → length (laid at bs) ≡ length bs
 unfolding laid
 length-laid at [] = refl
