@@ -2,6 +2,7 @@
 -- them, and metric j of it.
 use Prim.Native.Nat.{ℕ}
 use mathlib.Core.List.{List, []}
+use Rattle.refusal.specs.Numbers.{numberOf}
 use Rattle.metric_part.specs.Part.{partOf}
 use Rattle.reports.specs.declared.MetricAnswer.{MetricAnswer}
 use Rattle.reports.specs.Reports.{reportedIn}
@@ -9,6 +10,11 @@ use Rattle.block_reader.specs.Blocks.{readBlock}
 use Rattle.block_reader.specs.declared.BlockAnswer.{BlockAnswer}
 use Rattle.block_reader.specs.declared.BlockAnswer.the-variants as answer
 use Rattle.reports.specs.declared.MetricAnswer.the-variants as reported
+
+-- the number of the refusal of block k; 0 where it is found
+abbrev pub blockRefusal : BlockAnswer → ℕ
+blockRefusal (answer.Found b) = 0
+blockRefusal (answer.Refused e) = numberOf e
 
 -- the metrics of block k; empty where it is refused
 abbrev pub metricsPart : BlockAnswer → List ℕ → List ℕ

@@ -2,18 +2,26 @@
 // reader of the whole packet it accepts any octets, and answers or gives the first refusal.
 ghost use mathlib.Core.Path.{_≡_};
 ghost use Rattle.block_reader.specs.Blocks.{readBlock};
-ghost use Rattle.metric_reader.specs.Metrics.{metricsPart, readMetric};
+ghost use Rattle.metric_reader.specs.Metrics.{blockRefusal, metricsPart, readMetric};
 use block_reader::BlockAnswer;
 use reports::MetricAnswer;
 
-// The part of the packet that holds the metrics of block k; empty where the block is refused.
-pub fn block_metrics<'a>(packet: &'a [u8], k: usize) -> &'a [u8]
+// The part of the packet that holds the metrics of block k, and 0 in `refusal`. Where the block is refused: an empty part,
+// and the number of the refusal.
+pub fn block_metrics<'a>(packet: &'a [u8], k: usize, refusal: &mut u8) -> &'a [u8]
     ensures part { λ r. ⌜ now r ≡ metricsPart (readBlock (now (packet .entry)) k) (now (packet .entry)) ⌝ }
+    ensures number { λ r. ⌜ now (refusal .exit) ≡ blockRefusal (readBlock (now (packet .entry)) k) ⌝ }
 {
     let answer = block_reader::block(packet, k);
     match answer {
-        BlockAnswer::Found(b) => metric_part::metrics_of(packet, b),
-        BlockAnswer::Refused(_) => &packet[..0],
+        BlockAnswer::Found(b) => {
+            *refusal = 0;
+            metric_part::metrics_of(packet, b)
+        }
+        BlockAnswer::Refused(e) => {
+            *refusal = refusal::number(e);
+            &packet[..0]
+        }
     }
 }
 
