@@ -22,7 +22,7 @@ use Rattle.reader.specs.Reading.{decoded, decodePacket, readOf, blockIn}
 use Rattle.reader.proofs.Answers as reader
 use Rattle.block_reader.specs.Blocks.{nth}
 use Rattle.call_laws.specs.Walk.{Memory, nextCall, blockGiven, Reaches, Gives, Ends, Refuses, Yields}
-use Rattle.call_laws.proofs.Calls.{start-given, start-refused, step-given, step-refused, step-ended, not-29}
+use Rattle.call_laws.proofs.Calls.{numbers, start-given, start-refused, step-given, step-refused, step-ended, not-29}
 use Rattle.packet_header.specs.declared.Start.the-variants as start
 use Rattle.walk.specs.declared.Step.the-variants.{Block, End, Refused}
 use Rattle.reader.specs.declared.Reading.the-variants as reading
@@ -99,6 +99,14 @@ module _ (s : List ℕ) where
   stopped-refused e f = rw f
 
   module _ (m : Memory) where
+    -- the calls before determine the offset: there is one walk
+    pub one-walk : {k a b : ℕ} → Reaches s m k a → Reaches s m k b → a ≡ b
+    one-walk (Reaches.first f) (Reaches.first g) = let z = numbers (sym f ∙ g) in cc
+    one-walk (Reaches.next {k} {at} x r f) (Reaches.next {at = to} y q g) =
+        let same : nextCall s m k at ≡ nextCall s m k to = ap (nextCall s m k) (one-walk r q) in
+        let z = numbers (sym f ∙ same ∙ g) in
+        cc
+
     -- ---- what a caller has walked is in front of what the reader has still to walk
 
     record Passed (k at : ℕ) : Type 0 where
