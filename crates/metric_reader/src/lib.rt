@@ -6,20 +6,20 @@ ghost use Rattle.metric_reader.specs.Metrics.{blockRefusal, metricsPart,
 use block_reader::BlockAnswer;
 use reports::MetricAnswer;
 
-// The part of the packet that holds the metrics of block k, and 0 in `refusal`. Where the block is refused: an empty part,
+// The part of the packet that holds the metrics of block k, and 0 in `refused`. Where the block is refused: an empty part,
 // and the number of the refusal.
-pub fn block_metrics<'a>(packet: &'a [u8], k: usize, refusal: &mut u8) -> &'a [u8]
+pub fn block_metrics<'a>(packet: &'a [u8], k: usize, refused: &mut u8) -> &'a [u8]
     ensures part { λ r. ⌜ now r ≡ metricsPart (readBlock (now (packet .entry)) k) (now (packet .entry)) ⌝ }
-    ensures number { λ r. ⌜ now (refusal .exit) ≡ blockRefusal (readBlock (now (packet .entry)) k) ⌝ }
+    ensures number { λ r. ⌜ now (refused .exit) ≡ blockRefusal (readBlock (now (packet .entry)) k) ⌝ }
 {
     let answer = block_reader::block(packet, k);
     match answer {
         BlockAnswer::Found(b) => {
-            *refusal = 0;
+            *refused = 0;
             metric_part::metrics_of(packet, b)
         }
         BlockAnswer::Refused(e) => {
-            *refusal = refusal::number(e);
+            *refused = refusal::number(e);
             &packet[..0]
         }
     }
