@@ -16,6 +16,8 @@ use Rattle.lists.proofs.All.{all-append}
 use Rattle.lists.proofs.Cases.{never}
 use Rattle.metric.specs.declared.Time.{Time}
 use Rattle.places.specs.Place.{placeAt, isStream, findOf}
+use Rattle.places.specs.Held.{HeldAt}
+use Rattle.places.proofs.Held.{found-held, lost-unheld}
 use Rattle.place_window.specs.Window.{cellAt}
 use Rattle.cells.specs.Cell.{readCell}
 use Rattle.store.specs.Store.{placeOf}
@@ -24,6 +26,7 @@ use Rattle.history.specs.Calls.{Call, arrive, forget, CallAnswer, Store,
 use Rattle.history.specs.Meaning.{Entry, fullOf, firstFull, entryOf, countFrom, topFrom, entriesOf, topOf, AsArrivals, EntryInRange, AcceptedInRange}
 use Rattle.history.specs.Model.{Place, free, names, at, modelPlace, modelStep, modelAnswer, modelRun, modelAnswers, vacant}
 use Rattle.history.specs.Reading.{Holds, Reads, Fresh}
+use Rattle.history.specs.Alone.{SameStream, unheld, held}
 use Rattle.history.proofs.Numbers.{full-low}
 use Rattle.history.proofs.Places.{named, find-same}
 use Rattle.history.proofs.Filled.{as-arrivals}
@@ -135,13 +138,25 @@ module _ (st : Store) (new : Fresh st) (cs : List Call) (range : All CallInRange
     found-by : (f : Found) → findOf (storeRun st cs .places) ssrc ≡ f → foundIn f model ≡ placeBy ssrc (history ssrc)
     found-by f e = ap (λ (g : Found). foundIn g model) (sym (sym (find-same (storeRun st cs) model same-reading ssrc) ∙ e)) ∙ kept .each ssrc
 
-    -- a stream that the store does not hold has no accepted arrival since it was forgotten
+    -- a stream that the store does not hold has no accepted arrival since it was forgotten, and the other way round
     pub not-held : findOf (storeRun st cs .places) ssrc ≡ Nothing → history ssrc ≡ []
     not-held e = none (history ssrc) (found-by Nothing e)
       where
         none : (l : List Accepted) → free ≡ placeBy ssrc l → l ≡ []
         none [] h = refl
         none (a ∷ l) h = never (cc)
+
+    not-free : (p : ℕ) → findOf (storeRun st cs .places) ssrc ≡ At p → at model p ≡ free → ⊥
+    not-free p found e =
+        let t = first-true (λ (k : ℕ). names ssrc (at model k)) (length model) 0 p (sym (find-same (storeRun st cs) model same-reading ssrc) ∙ found) in
+        false≢true (sym (ap (names ssrc) e) ∙ t)
+
+    pub none-held : history ssrc ≡ [] → findOf (storeRun st cs .places) ssrc ≡ Nothing
+    none-held e = by-search (findOf (storeRun st cs .places) ssrc) refl
+      where
+        by-search : (f : Found) → findOf (storeRun st cs .places) ssrc ≡ f → f ≡ Nothing
+        by-search (At p) g = absurd (not-free p g (found-by (At p) g ∙ ap (placeBy ssrc) e))
+        by-search Nothing g = refl
 
     pub accepted-in-range : All AcceptedInRange (history ssrc)
     accepted-in-range = rw same-answers (run-range ssrc cs (vacant (length (st .places))) [] range tt)
@@ -153,17 +168,23 @@ module _ (st : Store) (new : Fresh st) (cs : List Call) (range : All CallInRange
         where
           holds : (l : List Accepted) → at model p ≡ placeBy ssrc l
               → Holds (storeRun st cs .cells) p (placeAt (storeRun st cs .places) p) ssrc (topOf l) (entriesOf l)
-          holds [] e =
-              let t = first-true (λ (k : ℕ). names ssrc (at model k)) (length model) 0 p (sym (find-same (storeRun st cs) model same-reading ssrc) ∙ found) in
-              absurd (false≢true (sym (ap (names ssrc) e) ∙ t))
+          holds [] e = absurd (not-free p found e)
           holds (a ∷ l) e = rw e at (same-reading .each p)
+
+      pub held-by-history : HeldAt (storeRun st cs .places) ssrc p (topOf (history ssrc) % sequenceNumbers)
+      held-by-history = record { holds = by-history .place; first = found-held (storeRun st cs .places) ssrc p found .first }
 
       pub cell-by-history : (n : ℕ) → n ≤ topOf (history ssrc) → topOf (history ssrc) < n + cellsOfAPlace
           → AsArrivals (readCell (cellAt (storeRun st cs .cells) p n)) (entriesOf (history ssrc)) n
       cell-by-history n a b = rw (by-history .window n a b) (as-arrivals (entriesOf (history ssrc)) n)
 
-      pub entries-in-range : All EntryInRange (entriesOf (history ssrc))
-      entries-in-range = by-history .inRange
+    -- the entries of every stream
+    pub entries-in-range : All EntryInRange (entriesOf (history ssrc))
+    entries-in-range = by-search (findOf (storeRun st cs .places) ssrc) refl
+      where
+        by-search : (f : Found) → findOf (storeRun st cs .places) ssrc ≡ f → All EntryInRange (entriesOf (history ssrc))
+        by-search (At p) e = by-history p e .inRange
+        by-search Nothing e = rw (not-held e) tt
 
 -- ---- a stream by itself
 -- each slot of the ring is that of one number of the window
@@ -171,24 +192,51 @@ slot-number : (top s : ℕ) → cellsOfAPlace ≤ top → (n : ℕ) × ((n ≤ t
 slot-number top s g = (top - (top + cellsOfAPlace - s % cellsOfAPlace) % cellsOfAPlace, (omega arith, (omega arith, omega arith)))
 
 module _ (st st′ : Store) (new : Fresh st) (new′ : Fresh st′) (cs cs′ : List Call) (range : All CallInRange cs) (range′ : All CallInRange cs′)
-    (ssrc p p′ : ℕ) (found : findOf (storeRun st cs .places) ssrc ≡ At p) (found′ : findOf (storeRun st′ cs′ .places) ssrc ≡ At p′)
-    (same : acceptedOf ssrc cs (storeAnswers st cs) ≡ acceptedOf ssrc cs′ (storeAnswers st′ cs′)) where
-  H : Holds (storeRun st cs .cells) p (placeAt (storeRun st cs .places) p) ssrc
-      (topOf (acceptedOf ssrc cs (storeAnswers st cs))) (entriesOf (acceptedOf ssrc cs (storeAnswers st cs)))
-  H = by-history st new cs range ssrc p found
+    (ssrc : ℕ) (same : acceptedOf ssrc cs (storeAnswers st cs) ≡ acceptedOf ssrc cs′ (storeAnswers st′ cs′)) where
+  abbrev past : List Accepted
+  past = acceptedOf ssrc cs (storeAnswers st cs)
 
-  H′ : Holds (storeRun st′ cs′ .cells) p′ (placeAt (storeRun st′ cs′ .places) p′) ssrc
-      (topOf (acceptedOf ssrc cs (storeAnswers st cs))) (entriesOf (acceptedOf ssrc cs (storeAnswers st cs)))
-  H′ = rw same (by-history st′ new′ cs′ range′ ssrc p′ found′)
+  -- held in one exactly if held in the other: a stream is held exactly if it has an accepted arrival
+  not-held-too : findOf (storeRun st cs .places) ssrc ≡ Nothing → findOf (storeRun st′ cs′ .places) ssrc ≡ Nothing
+  not-held-too e = none-held st′ new′ cs′ range′ ssrc (sym same ∙ not-held st new cs range ssrc e)
 
-  -- the same SSRC and highest number, wherever the stream stands
-  pub same-highest : placeAt (storeRun st cs .places) p ≡ placeAt (storeRun st′ cs′ .places) p′
-  same-highest = H .place ∙ sym (H′ .place)
+  module _ (p : ℕ) (found : findOf (storeRun st cs .places) ssrc ≡ At p) where
+    -- the other store holds the stream too
+    pub same-held : (q : ℕ) × (findOf (storeRun st′ cs′ .places) ssrc ≡ At q)
+    same-held = by-search (findOf (storeRun st′ cs′ .places) ssrc) refl
+      where
+        by-search : (f : Found) → findOf (storeRun st′ cs′ .places) ssrc ≡ f → (q : ℕ) × (findOf (storeRun st′ cs′ .places) ssrc ≡ At q)
+        by-search (At q) e = (q, e)
+        by-search Nothing e =
+            let none : findOf (storeRun st cs .places) ssrc ≡ Nothing = none-held st new cs range ssrc (same ∙ not-held st′ new′ cs′ range′ ssrc e) in
+            never (cc)
 
-  -- and the same metric of every number at the same RTS, whatever came in for other streams
-  pub same-metrics : (rts number : ℕ) → cellMetric (storeRun st cs .cells) rts p number ≡ cellMetric (storeRun st′ cs′ .cells) rts p′ number
-  unfolding cellMetric
-  same-metrics rts number =
-      let g = H .begun in
-      let n = slot-number (topOf (acceptedOf ssrc cs (storeAnswers st cs))) number (omega arith) in
-      rw (← n .1 .1 .1, H .window (n .0) (n .1 .0) (n .1 .1 .0), H′ .window (n .0) (n .1 .0) (n .1 .1 .0))
+    H : Holds (storeRun st cs .cells) p (placeAt (storeRun st cs .places) p) ssrc (topOf past) (entriesOf past)
+    H = by-history st new cs range ssrc p found
+
+    H′ : Holds (storeRun st′ cs′ .cells) (same-held .0) (placeAt (storeRun st′ cs′ .places) (same-held .0)) ssrc (topOf past) (entriesOf past)
+    H′ = rw same (by-history st′ new′ cs′ range′ ssrc (same-held .0) (same-held .1))
+
+    -- with the same SSRC and highest number, wherever it stands there
+    pub same-highest : placeAt (storeRun st cs .places) p ≡ placeAt (storeRun st′ cs′ .places) (same-held .0)
+    same-highest = H .place ∙ sym (H′ .place)
+
+    -- and the same metric of every number at the same RTS, whatever came in for other streams
+    pub same-metrics : (rts number : ℕ) → cellMetric (storeRun st cs .cells) rts p number ≡ cellMetric (storeRun st′ cs′ .cells) rts (same-held .0) number
+    unfolding cellMetric
+    same-metrics rts number =
+        let g = H .begun in
+        let n = slot-number (topOf past) number (omega arith) in
+        rw (← n .1 .1 .1, H .window (n .0) (n .1 .0) (n .1 .1 .0), H′ .window (n .0) (n .1 .0) (n .1 .1 .0))
+
+  -- all of it in one: two histories with the same accepted arrivals of a stream say the same of it
+  pub same-stream : SameStream (storeRun st cs) (storeRun st′ cs′) ssrc
+  same-stream = by-search (findOf (storeRun st cs .places) ssrc) refl
+    where
+      by-search : (f : Found) → findOf (storeRun st cs .places) ssrc ≡ f → SameStream (storeRun st cs) (storeRun st′ cs′) ssrc
+      by-search Nothing e =
+          unheld (lost-unheld (storeRun st cs .places) ssrc e) (lost-unheld (storeRun st′ cs′ .places) ssrc (not-held-too e))
+      by-search (At p) e =
+          let q = same-held p e in
+          held p (q .0) (topOf past % sequenceNumbers) (held-by-history st new cs range ssrc p e)
+          (rw same (held-by-history st′ new′ cs′ range′ ssrc (q .0) (q .1))) (same-metrics p e)

@@ -3,3 +3,4 @@ pub mod Meaning
 pub mod Model
 pub mod Reading
 pub mod Refusals
+pub mod Alone
