@@ -2,7 +2,8 @@
 use Prim.Native.Nat.{ℕ, _+_, _<_, _≤_}
 use mathlib.Core.Path.{_≡_, refl, sym, ap, _∙_}
 use mathlib.Core.Bool.{Bool, true, false, cond, _||_}
-use mathlib.Core.List.{List, [], _∷_, _++_}
+use mathlib.Core.List.{List, [], _∷_, _++_, List·Memᴰ, List·Memᴰ·head, List·Memᴰ·tail, List·Memᴰ·not-nil, List·Memᴰ·cases-cons}
+use mathlib.Core.Logic.{⊎-elim}
 use native.Mathlib.Omega.{arith}
 use native.Mathlib.Decide.{ℕ-discrete}
 use borrow.Author.Tests.{eq-eqb, ne-eqb}
@@ -43,7 +44,9 @@ mark-first mark = elim (ℕ-discrete mark congested) [ yes e ↦ simp (eq-eqb ma
 
 pub cell-append : (cs : List Entry) (e : Entry) → cellOf (cs ++ (e ∷ [])) ≡ afterCopy (cellOf cs) (e .mark) (e .time)
 cell-append [] e = rw (mark-first (e .mark))
-cell-append (c ∷ cs) e = rw (any-append cs e, or-assoc, mark-fold (eqb (c .mark) congested || anyCE cs) (c .mark) (e .mark))
+cell-append (c ∷ cs) e =
+    ap (λ (m : ℕ). Filled m (c .time))
+    (ap (λ (b : Bool). cond b congested (c .mark)) (any-append (c ∷ cs) e) ∙ mark-fold (anyCE (c ∷ cs)) (c .mark) (e .mark))
 
 module _ (e : Entry) (n : ℕ) where
   copies-same : e .full ≡ n → (es : List Entry) → copiesOf (es ++ (e ∷ [])) n ≡ copiesOf es n ++ (e ∷ [])
@@ -80,3 +83,36 @@ copies-above top n (e ∷ es) h l =
 
 pub by-above : (top n : ℕ) (es : List Entry) → All (λ (e : Entry). e .full ≤ top) es → top < n → cellBy es n ≡ Empty
 by-above top n es h l = ap cellOf (copies-above top n es h l)
+
+module _ (n : ℕ) where
+  -- the copies are the entries of the full number n
+  pub copies-have : (es : List Entry) (e : Entry) → List·Memᴰ e es → e .full ≡ n → List·Memᴰ e (copiesOf es n)
+  unfolding copiesOf
+  copies-have [] e m q = absurd (List·Memᴰ·not-nil m)
+  copies-have (x ∷ es) e m q = ⊎-elim (λ h. here h) (λ h. there (copies-have es e h q)) (List·Memᴰ·cases-cons m)
+    where
+      here : e ≡ x → List·Memᴰ e (cond (eqb (x .full) n) (x ∷ copiesOf es n) (copiesOf es n))
+      here h =
+          let g : x .full ≡ n = rw (← h) q in
+          rw (eq-eqb (x .full) n g) (List·Memᴰ·head h)
+
+      there : List·Memᴰ e (copiesOf es n) → List·Memᴰ e (cond (eqb (x .full) n) (x ∷ copiesOf es n) (copiesOf es n))
+      there m = elim (ℕ-discrete (x .full) n) [ yes g ↦ rw (eq-eqb (x .full) n g) (List·Memᴰ·tail m) | no g ↦ rw (ne-eqb (x .full) n g) m ]
+
+  pub copies-are : (es : List Entry) (e : Entry) → List·Memᴰ e (copiesOf es n) → List·Memᴰ e es × (e .full ≡ n)
+  unfolding copiesOf
+  copies-are [] e m = absurd (List·Memᴰ·not-nil m)
+  copies-are (x ∷ es) e m = split m (λ h. copies-are es e h)
+    where
+      later : List·Memᴰ e es × (e .full ≡ n) → List·Memᴰ e (x ∷ es) × (e .full ≡ n)
+      later h = (List·Memᴰ·tail (h .0), h .1)
+
+      split : List·Memᴰ e (cond (eqb (x .full) n) (x ∷ copiesOf es n) (copiesOf es n)) → (List·Memᴰ e (copiesOf es n) → List·Memᴰ e es × (e .full ≡ n))
+          → List·Memᴰ e (x ∷ es) × (e .full ≡ n)
+      split m more =
+          elim (ℕ-discrete (x .full) n) [
+            | yes g ↦
+                let c : List·Memᴰ e (x ∷ copiesOf es n) = rw (eq-eqb (x .full) n g) at m in
+                ⊎-elim (λ h. (List·Memᴰ·head h, rw h g)) (λ h. later (more h)) (List·Memᴰ·cases-cons c)
+            | no g ↦ later (more (rw (ne-eqb (x .full) n g) at m))
+          ]

@@ -10,41 +10,9 @@ use lib.Dec.{eqb}
 use Rattle.lists.proofs.Cases.{never}
 use Rattle.metric.specs.declared.Time.{Time}
 use Rattle.history.specs.Meaning.{Entry, copiesOf, anyCE, cellOf, cellBy, AsArrivals}
+use Rattle.history.proofs.Copies.{copies-have, copies-are}
 use Rattle.metric.specs.Metric.{congested}
 use Rattle.metric.specs.declared.Cell.the-variants.{Empty, Filled}
-
-module _ (n : ℕ) where
-  -- the copies are the entries of the full number n
-  copies-have : (es : List Entry) (e : Entry) → List·Memᴰ e es → e .full ≡ n → List·Memᴰ e (copiesOf es n)
-  unfolding copiesOf
-  copies-have [] e m q = absurd (List·Memᴰ·not-nil m)
-  copies-have (x ∷ es) e m q = ⊎-elim (λ h. here h) (λ h. there (copies-have es e h q)) (List·Memᴰ·cases-cons m)
-    where
-      here : e ≡ x → List·Memᴰ e (cond (eqb (x .full) n) (x ∷ copiesOf es n) (copiesOf es n))
-      here h =
-          let g : x .full ≡ n = rw (← h) q in
-          rw (eq-eqb (x .full) n g) (List·Memᴰ·head h)
-
-      there : List·Memᴰ e (copiesOf es n) → List·Memᴰ e (cond (eqb (x .full) n) (x ∷ copiesOf es n) (copiesOf es n))
-      there m = elim (ℕ-discrete (x .full) n) [ yes g ↦ rw (eq-eqb (x .full) n g) (List·Memᴰ·tail m) | no g ↦ rw (ne-eqb (x .full) n g) m ]
-
-  copies-are : (es : List Entry) (e : Entry) → List·Memᴰ e (copiesOf es n) → List·Memᴰ e es × (e .full ≡ n)
-  unfolding copiesOf
-  copies-are [] e m = absurd (List·Memᴰ·not-nil m)
-  copies-are (x ∷ es) e m = split m (λ h. copies-are es e h)
-    where
-      later : List·Memᴰ e es × (e .full ≡ n) → List·Memᴰ e (x ∷ es) × (e .full ≡ n)
-      later h = (List·Memᴰ·tail (h .0), h .1)
-
-      split : List·Memᴰ e (cond (eqb (x .full) n) (x ∷ copiesOf es n) (copiesOf es n)) → (List·Memᴰ e (copiesOf es n) → List·Memᴰ e es × (e .full ≡ n))
-          → List·Memᴰ e (x ∷ es) × (e .full ≡ n)
-      split m more =
-          elim (ℕ-discrete (x .full) n) [
-            | yes g ↦
-                let c : List·Memᴰ e (x ∷ copiesOf es n) = rw (eq-eqb (x .full) n g) at m in
-                ⊎-elim (λ h. (List·Memᴰ·head h, rw h g)) (λ h. later (more h)) (List·Memᴰ·cases-cons c)
-            | no g ↦ later (more (rw (ne-eqb (x .full) n g) at m))
-          ]
 
 -- some copy carried ECN-CE
 any-is : (cs : List Entry) (e : Entry) → List·Memᴰ e cs → e .mark ≡ congested → anyCE cs ≡ true

@@ -1,21 +1,44 @@
 -- Full numbers and the slots of a ring. Assumes nothing.
 use Prim.Native.Nat.{ℕ, _+_, _-_, _*_, _%_, _<_, _≤_}
-use mathlib.Core.Path.{_≡_, sym, ap, _∙_}
+use mathlib.Core.Path.{_≡_, refl, sym, ap, _∙_}
+use mathlib.Core.Bool.{Bool, true, false}
 use native.Mathlib.Omega.{arith}
 use native.Mathlib.Decide.{decLe}
-use borrow.Author.Tests.{le-leb, lt-leb}
+use borrow.Author.Tests.{leb-true, leb-false}
 use Rattle.window.specs.Number.{distanceOf, farthestAhead, sequenceNumbers}
 use Rattle.ring.specs.Ring.{cellsOfAPlace}
-use Rattle.history.specs.Meaning.{fullOf}
+use Rattle.history.specs.Meaning.{notBehind, fullOf}
+use Rattle.history.specs.Model.{isTooOld}
+
+-- what a test that is not false, or not true, gives
+is-true : (b : Bool) → (b ≡ false → ⊥) → b ≡ true
+is-true true n = refl
+is-true false n = absurd (n refl)
+
+is-false : (b : Bool) → (b ≡ true → ⊥) → b ≡ false
+is-false true n = absurd (n refl)
+is-false false n = refl
+
+not-behind : (f : ℕ) → f ≤ farthestAhead → notBehind f ≡ true
+not-behind f l = is-true (notBehind f) (λ e. omega (arith, leb-false))
+
+behind : (f : ℕ) → farthestAhead < f → notBehind f ≡ false
+behind f l = is-false (notBehind f) (λ e. omega (arith, leb-true))
+
+pub too-old : (top full : ℕ) → full + cellsOfAPlace ≤ top → isTooOld top full ≡ true
+too-old top full l = is-true (isTooOld top full) (λ e. omega (arith, leb-false))
+
+pub not-too-old : (top full : ℕ) → top < full + cellsOfAPlace → isTooOld top full ≡ false
+not-too-old top full l = is-false (isTooOld top full) (λ e. omega (arith, leb-true))
 
 module _ (top number : ℕ) (begun : sequenceNumbers ≤ top) (low : number < sequenceNumbers) where
   pub full-ahead : distanceOf number (top % sequenceNumbers) ≤ farthestAhead → fullOf top number ≡ top + distanceOf number (top % sequenceNumbers)
   unfolding fullOf
-  full-ahead l = rw (le-leb (distanceOf number (top % sequenceNumbers)) farthestAhead l)
+  full-ahead l = rw (not-behind (distanceOf number (top % sequenceNumbers)) l)
 
   pub full-far : farthestAhead < distanceOf number (top % sequenceNumbers) → fullOf top number ≡ top + distanceOf number (top % sequenceNumbers) - sequenceNumbers
   unfolding fullOf
-  full-far l = rw (lt-leb (distanceOf number (top % sequenceNumbers)) farthestAhead l)
+  full-far l = rw (behind (distanceOf number (top % sequenceNumbers)) l)
 
   -- not ahead: b numbers behind
   pub full-behind : (0 < distanceOf number (top % sequenceNumbers) → farthestAhead < distanceOf number (top % sequenceNumbers))

@@ -77,39 +77,6 @@ module _ (places cells : List ℕ) (ssrc number mark : ℕ) (time : Time) where
       ≡ movedBy arrival.Accepted arrival.Refused (wordAfter mark time) m places cells p ssrc number
   by p m e = sym (continued-by arrival.Accepted arrival.Refused (wordAfter mark time) places cells p ssrc number m e)
 
-  module _ (s : Shaped places cells) (low : mark ≤ congested) where
-    known-given : (p : ℕ) → findOf places ssrc ≡ At p → Moved (highestAt places p) number
-        → Given (continued arrival.Accepted arrival.Refused (wordAfter mark time) places cells p ssrc number)
-    unfolding moved
-    known-given p f (ahead e n) =
-        rw (by p (move.Ahead (distanceOf number (highestAt places p))) e) (ArrivalGiven.later s low p (highestAt places p) (found-held places ssrc p f) n _ _)
-    known-given p f (within e n) =
-        rw (by p (move.Within (distanceOf (highestAt places p) number)) e) (ArrivalGiven.later s low p (highestAt places p) (found-held places ssrc p f) n _ _)
-    known-given p f (old e o) = rw (by p move.TooOld e) (ArrivalGiven.tooOld s low p (highestAt places p) (found-held places ssrc p f) o)
-
-    opened-given : (g : Found) → freeOf places ≡ g → findOf places ssrc ≡ Nothing
-        → Given (startedAt arrival.Accepted arrival.Refused (wordAfter mark time) g places cells ssrc number)
-    unfolding moved
-    opened-given (At k) v f = ArrivalGiven.first s low (lost-unheld places ssrc f) k (found-vacant places k v) _ _
-    opened-given Nothing v f = ArrivalGiven.noFreePlace s low (lost-unheld places ssrc f) (full-none places v)
-
-    found-given : (g : Found) → findOf places ssrc ≡ g → Given (arrivedAt g places cells ssrc number mark time)
-    found-given (At p) f = known-given p f (moved-by (highestAt places p) number)
-    found-given Nothing f = opened-given (freeOf places) refl f
-
-  shape-given : Shape places cells → Given (arrived places cells ssrc number mark time)
-  shape-given (wrong m) = rw (misshapen-is places cells m) (ArrivalGiven.badStore m)
-  shape-given (right s) =
-      rw (shaped-is places cells s)
-      (elim (decLe mark congested) [
-        | yes m ↦ rw (le-ltb congested mark m) (found-given s m (findOf places ssrc) refl)
-        | no m ↦ rw (lt-ltb congested mark (omega arith)) (ArrivalGiven.badMark s (omega arith))
-      ])
-
-  -- the answer is given for the reason that the rules name, and a refused arrival leaves the store as it was
-  pub arrival-given : ArrivalGiven places cells ssrc number mark (arrived places cells ssrc number mark time)
-  arrival-given = shape-given (shape-of places cells)
-
   known-answer : (p high : ℕ) → HeldAt places ssrc p high → (Old high number → ⊥)
       → arrival.Accepted ≡ continued arrival.Accepted arrival.Refused (wordAfter mark time) places cells p ssrc number .answer
   unfolding moved
@@ -142,6 +109,39 @@ module _ (places cells : List ℕ) (ssrc number mark : ℕ) (time : Time) where
   arrival-only o (ArrivalGiven.later s m p high K n a b) =
       rw (shaped-is places cells s, le-ltb congested mark m, held-found places ssrc p high K .0) (known-answer p high K n)
   arrival-only o (ArrivalGiven.first s m n k v a b) = rw (shaped-is places cells s, le-ltb congested mark m, unheld-lost places ssrc n) (new-answer k v)
+
+  module _ (s : Shaped places cells) (low : mark ≤ congested) where
+    known-given : (p : ℕ) → findOf places ssrc ≡ At p → Moved (highestAt places p) number
+        → Given (continued arrival.Accepted arrival.Refused (wordAfter mark time) places cells p ssrc number)
+    unfolding moved
+    known-given p f (ahead e n) =
+        rw (by p (move.Ahead (distanceOf number (highestAt places p))) e) (ArrivalGiven.later s low p (highestAt places p) (found-held places ssrc p f) n _ _)
+    known-given p f (within e n) =
+        rw (by p (move.Within (distanceOf (highestAt places p) number)) e) (ArrivalGiven.later s low p (highestAt places p) (found-held places ssrc p f) n _ _)
+    known-given p f (old e o) = rw (by p move.TooOld e) (ArrivalGiven.tooOld s low p (highestAt places p) (found-held places ssrc p f) o)
+
+    opened-given : (g : Found) → freeOf places ≡ g → findOf places ssrc ≡ Nothing
+        → Given (startedAt arrival.Accepted arrival.Refused (wordAfter mark time) g places cells ssrc number)
+    unfolding moved
+    opened-given (At k) v f = ArrivalGiven.first s low (lost-unheld places ssrc f) k (found-vacant places k v) _ _
+    opened-given Nothing v f = ArrivalGiven.noFreePlace s low (lost-unheld places ssrc f) (full-none places v)
+
+    found-given : (g : Found) → findOf places ssrc ≡ g → Given (arrivedAt g places cells ssrc number mark time)
+    found-given (At p) f = known-given p f (moved-by (highestAt places p) number)
+    found-given Nothing f = opened-given (freeOf places) refl f
+
+  shape-given : Shape places cells → Given (arrived places cells ssrc number mark time)
+  shape-given (wrong m) = rw (misshapen-is places cells m) (ArrivalGiven.badStore m)
+  shape-given (right s) =
+      rw (shaped-is places cells s)
+      (elim (decLe mark congested) [
+        | yes m ↦ rw (le-ltb congested mark m) (found-given s m (findOf places ssrc) refl)
+        | no m ↦ rw (lt-ltb congested mark (omega arith)) (ArrivalGiven.badMark s (omega arith))
+      ])
+
+  -- the answer is given for the reason that the rules name, and a refused arrival leaves the store as it was
+  pub arrival-given : ArrivalGiven places cells ssrc number mark (arrived places cells ssrc number mark time)
+  arrival-given = shape-given (shape-of places cells)
 
   -- a refused arrival changes nothing
   given-kept : (o : StoreAfter Arrival) → ArrivalGiven places cells ssrc number mark o → (e : Refusal)

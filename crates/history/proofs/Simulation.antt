@@ -5,7 +5,7 @@ use mathlib.Core.Bool.{Bool, true, false≢true}
 use mathlib.Core.List.{List, [], _∷_, _++_}
 use native.Mathlib.Omega.{arith}
 use native.Mathlib.Decide.{decLe, decLt}
-use borrow.Author.Tests.{lt-ltb, le-ltb, le-leb, lt-leb, eqb-true}
+use borrow.Author.Tests.{lt-ltb, le-ltb, eqb-true}
 use lib.ListN.{length, getD, set, length-set, replicate, length-replicate}
 use lib.Seq.{getD-set-same, getD-set-other}
 use Rattle.lists.specs.All.{All}
@@ -35,7 +35,7 @@ use Rattle.history.specs.Meaning.{Entry, fullOf, firstFull, cellBy, Entr
 use Rattle.history.specs.Model.{Place, free, stream, names, isVacant, highestIn, at, findIn, vacantIn, Arrived, refusedIn, addedAt}
 use Rattle.history.specs.Model.{laterAt, startedIn, arrivedIn, modelArrived, forgotAt, modelForgot, modelPlace, modelStep, modelAnswer, modelRun, modelAnswers, vacant}
 use Rattle.history.specs.Reading.{Holds, ReadsAt, Reads, Fresh}
-use Rattle.history.proofs.Numbers.{full-ahead, full-behind, full-low}
+use Rattle.history.proofs.Numbers.{too-old, not-too-old, full-ahead, full-behind, full-low}
 use Rattle.history.proofs.Copies.{by-none, by-above}
 use Rattle.history.proofs.Cells.{length-updated, updated-away, length-newest, newest-away, newest-reads, updated-reads}
 use Rattle.history.proofs.Places.{find-same, free-same, replaced}
@@ -52,11 +52,11 @@ use Rattle.later_arrivals.specs.declared.Arrival.the-variants as arrival
 module _ (ps : List Place) (k ssrc full mark : ℕ) (time : Time) where
   pub later-old : full + cellsOfAPlace ≤ highestIn (at ps k) → laterAt ps k ssrc full mark time ≡ refusedIn TooOld ps
   unfolding laterAt
-  later-old l = rw (le-leb (full + cellsOfAPlace) (highestIn (at ps k)) l)
+  later-old l = rw (too-old (highestIn (at ps k)) full l)
 
   pub later-in : highestIn (at ps k) < full + cellsOfAPlace → laterAt ps k ssrc full mark time ≡ addedAt ps k ssrc full mark time
   unfolding laterAt
-  later-in l = rw (lt-leb (full + cellsOfAPlace) (highestIn (at ps k)) l)
+  later-in l = rw (not-too-old (highestIn (at ps k)) full l)
 
 in-and-below : (x m : ℕ) → x < m + cellsOfAPlace → m + cellsOfAPlace ≤ x → ⊥
 in-and-below x m a b = omega arith

@@ -19,9 +19,13 @@ pub record Entry : Type 0 where
   pub mark : ℕ
   pub time : Time
 
+-- f from 0 to 32,767
+abbrev pub notBehind : ℕ → Bool
+notBehind f = leb f farthestAhead
+
 -- f numbers ahead of the highest, or 65536 - f behind it
 abbrev pub countedOn : ℕ → ℕ → ℕ
-countedOn top f = cond (leb f farthestAhead) (top + f) (top + f - sequenceNumbers)
+countedOn top f = cond (notBehind f) (top + f) (top + f - sequenceNumbers)
 
 -- the full number of an arrival, by the highest full number before it
 unfoldable pub fullOf : ℕ → ℕ → ℕ

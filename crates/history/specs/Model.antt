@@ -68,9 +68,12 @@ addedAt ps k ssrc full mark time = record {
 }
 
 -- too old: the full number is below the window of the 2,048 highest
+abbrev pub isTooOld : ℕ → ℕ → Bool
+isTooOld top full = leb (full + cellsOfAPlace) top
+
 unfoldable pub laterAt : List Place → ℕ → ℕ → ℕ → ℕ → Time → Arrived
 laterAt ps k ssrc full mark time =
-    cond (leb (full + cellsOfAPlace) (highestIn (at ps k))) (refusedIn TooOld ps) (addedAt ps k ssrc full mark time)
+    cond (isTooOld (highestIn (at ps k)) full) (refusedIn TooOld ps) (addedAt ps k ssrc full mark time)
 
 abbrev pub startedIn : Found → List Place → ℕ → ℕ → ℕ → Time → Arrived
 startedIn (At k) ps ssrc number mark time = addedAt ps k ssrc (firstFull number) mark time
