@@ -12,12 +12,18 @@ use Rattle.places.specs.declared.Holding.{Holding}
 use Rattle.cells.specs.Cell.{readCell}
 use Rattle.history.specs.Meaning.{Entry, cellBy}
 use Rattle.history.specs.Reading.{Holds}
+use Rattle.history.proofs.Numbers.{same-slot}
 use Rattle.cutting.specs.Cutting.{following, numbersFrom}
 use Rattle.feedback.specs.Seen.{fullNumber, StandsFor}
 use lib.ListN.{getD}
 
 full-at : (top s n k d : ℕ) → s < 65536 → n ≡ top - d → d < cellsOfAPlace → d ≤ top → n ≡ 65536 * k + s → StandsFor top s n
-full-at top s n k d small e near within at = record { most = omega arith; least = omega arith; slot = omega arith; low = omega arith }
+full-at top s n k d small e near within at = record {
+  most = omega arith;
+  least = omega arith;
+  low = omega arith;
+  only = λ m most least low. omega arith;
+}
 
 -- the number is one of the window, and stands for its full number there
 pub full-number : (top s : ℕ) → 65536 ≤ top → s < 65536 → distanceOf (top % 65536) s < cellsOfAPlace → StandsFor top s (fullNumber top s)
@@ -36,7 +42,7 @@ pub cell-in-window : (cells : List ℕ) (p : ℕ) (h : Holding) (ssrc top : ℕ)
     → s < 65536 → distanceOf (top % 65536) s < cellsOfAPlace → readCell (cellAt cells p s) ≡ cellBy es (fullNumber top s)
 cell-in-window cells p h ssrc top es s held small near =
     let f : StandsFor top s (fullNumber top s) = full-number top s (held .begun) small near in
-    ap (λ (m : ℕ). readCell (getD cells (cellsOfAPlace * p + m) 0)) (sym (f .slot)) ∙ held .window (fullNumber top s) (f .most) (f .least)
+    ap (λ (m : ℕ). readCell (getD cells (cellsOfAPlace * p + m) 0)) (sym (same-slot (fullNumber top s) s (f .low))) ∙ held .window (fullNumber top s) (f .most) (f .least)
 
 -- ---- ranges in a window
 

@@ -28,8 +28,9 @@ fullNumber top s = top - distanceOf (top % sequenceNumbers) s
 pub record StandsFor (top s n : ℕ) : Type 0 where
   pub most : n ≤ top
   pub least : top < n + cellsOfAPlace
-  pub slot : n % cellsOfAPlace ≡ s % cellsOfAPlace
   pub low : n % sequenceNumbers ≡ s
+  -- no other number of the window has these 16 bits
+  pub only : (m : ℕ) → m ≤ top → top < m + cellsOfAPlace → m % sequenceNumbers ≡ s → m ≡ n
 
 -- the case of number s at RTS: not received; or received with the first copy's offset, over range or without
 -- a time. The mark is ECN-CE if any copy of that full number carried it, else the first copy's

@@ -15,7 +15,7 @@ use Rattle.metric.specs.Metric.{congested}
 use Rattle.metric.specs.declared.Cell.the-variants.{Empty, Filled}
 
 -- some copy carried ECN-CE
-any-is : (cs : List Entry) (e : Entry) → List·Memᴰ e cs → e .mark ≡ congested → anyCE cs ≡ true
+pub any-is : (cs : List Entry) (e : Entry) → List·Memᴰ e cs → e .mark ≡ congested → anyCE cs ≡ true
 any-is [] e m q = absurd (List·Memᴰ·not-nil m)
 any-is (c ∷ cs) e m q = ⊎-elim (λ h. here h) (λ h. there (eqb (c .mark) congested) (any-is cs e h q)) (List·Memᴰ·cases-cons m)
   where
@@ -28,7 +28,7 @@ any-is (c ∷ cs) e m q = ⊎-elim (λ h. here h) (λ h. there (eqb (c .mark) co
     there true t = refl
     there false t = t
 
-any-not : (cs : List Entry) → ((e : Entry) → List·Memᴰ e cs → e .mark ≡ congested → ⊥) → anyCE cs ≡ false
+pub any-not : (cs : List Entry) → ((e : Entry) → List·Memᴰ e cs → e .mark ≡ congested → ⊥) → anyCE cs ≡ false
 any-not [] h = refl
 any-not (c ∷ cs) h =
     rw (ne-eqb (c .mark) congested (h c (List·Memᴰ·head refl)))
