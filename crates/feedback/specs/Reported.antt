@@ -1,5 +1,5 @@
 -- What a reader of written feedback is told of each number, rule by rule, by the accepted arrivals of its stream
--- alone. An entry is an accepted arrival with its full number; entries stand in the order of the calls.
+-- alone. An entry is an accepted arrival with its full number; they stand in the order of the calls.
 use Prim.Native.Nat.{ℕ, _+_, _/_, _%_, _≤_, _<_}
 use mathlib.Core.Path.{_≡_}
 use mathlib.Core.List.{List, _∷_, _++_, List·Memᴰ}
@@ -23,7 +23,7 @@ use Rattle.reports.specs.declared.MetricAnswer.the-variants as asked
 abbrev pub NoneHad : List Entry → ℕ → Type 0
 NoneHad es n = (e : Entry) → List·Memᴰ e es → e .full ≡ n → ⊥
 
--- e is the first accepted arrival that had the full number n
+-- e is the first accepted arrival, in the order of the calls, that had the full number n
 pub record First (es : List Entry) (n : ℕ) (e : Entry) : Type 0 where
   pub before : List Entry
   pub after : List Entry
@@ -43,20 +43,20 @@ pub data MarkOf (es : List Entry) (n : ℕ) (e : Entry) : ℕ → Type 0 where
   carried : (d : Entry) → CarriedCE es n d → MarkOf es n e congested
   firsts : ((d : Entry) → CarriedCE es n d → ⊥) → MarkOf es n e (e .mark)
 
--- what the accepted arrivals say of the full number n at RTS, a case for each rule
+-- what the accepted arrivals say of the full number n at RTS, a case for each rule. The last four carry the mark
 pub data Says (es : List Entry) (n rts : ℕ) : Metric → Type 0 where
-  -- none of them had it
+  -- none of them had it: not received
   missing : NoneHad es n → Says es n rts NotReceived
-  -- the first copy came at the time t, which has an offset: its age, in 1/1024 s rounded down
+  -- the first copy's age at RTS is at most 8189/1024 s: the offset is that age in 1/1024 s, rounded down
   received : (e : Entry) (t mark : ℕ) → First es n e → MarkOf es n e mark → e .time ≡ Known t
       → ageOf rts t ≤ longestAge → Says es n rts (Received mark (ageOf rts t / offsetUnit))
-  -- it came longer ago
+  -- its age is longer, and below 2^31: over range
   longAgo : (e : Entry) (t mark : ℕ) → First es n e → MarkOf es n e mark → e .time ≡ Known t
       → longestAge < ageOf rts t → ageOf rts t < afterRts → Says es n rts (OverRange mark)
-  -- it came after RTS
+  -- its age is 2^31 or more, which counts as a time after RTS: no time
   afterwards : (e : Entry) (t mark : ℕ) → First es n e → MarkOf es n e mark → e .time ≡ Known t
       → afterRts ≤ ageOf rts t → Says es n rts (NoTime mark)
-  -- its time is unknown
+  -- its time is unknown: no time
   untimed : (e : Entry) (mark : ℕ) → First es n e → MarkOf es n e mark → e .time ≡ Unknown
       → Says es n rts (NoTime mark)
 

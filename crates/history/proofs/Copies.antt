@@ -1,5 +1,5 @@
 -- What one more accepted arrival makes of a cell's meaning. Assumes nothing.
-use Prim.Native.Nat.{ℕ, _+_, _<_, _≤_}
+use Prim.Native.Nat.{ℕ, _<_, _≤_}
 use mathlib.Core.Path.{_≡_, refl, sym, ap, _∙_}
 use mathlib.Core.Bool.{Bool, true, false, cond, _||_}
 use mathlib.Core.List.{List, [], _∷_, _++_, List·Memᴰ, List·Memᴰ·head, List·Memᴰ·tail, List·Memᴰ·not-nil, List·Memᴰ·cases-cons}
@@ -52,11 +52,8 @@ module _ (e : Entry) (n : ℕ) where
   copies-same : e .full ≡ n → (es : List Entry) → copiesOf (es ++ (e ∷ [])) n ≡ copiesOf es n ++ (e ∷ [])
   unfolding copiesOf
   copies-same q [] = simp (eq-eqb (e .full) n q)
-  copies-same q (x ∷ es) = rw (copies-same q es) (each (eqb (x .full) n))
-    where
-      each : (b : Bool) → cond b (x ∷ (copiesOf es n ++ (e ∷ []))) (copiesOf es n ++ (e ∷ [])) ≡ cond b (x ∷ copiesOf es n) (copiesOf es n) ++ (e ∷ [])
-      each true = refl
-      each false = refl
+  copies-same q (x ∷ es) =
+      rw (copies-same q es) (elim (ℕ-discrete (x .full) n) [ yes g ↦ simp (eq-eqb (x .full) n g) | no g ↦ simp (ne-eqb (x .full) n g) ])
 
   copies-other : (e .full ≡ n → ⊥) → (es : List Entry) → copiesOf (es ++ (e ∷ [])) n ≡ copiesOf es n
   unfolding copiesOf

@@ -162,6 +162,10 @@ module _ (ps : List Place) (acc : ℕ → List Accepted) (K : Kept ps acc) where
         found (At k) e = later-kept k e
         found Nothing e = opened (vacantIn ps) refl e
 
+  -- a forgotten stream's history starts anew
+  own-forgetting : (x : ℕ) → heard x (acc x) (forget x) true ≡ []
+  own-forgetting x = rw (eq-eqb x x refl)
+
   forgot-kept : (x : ℕ) → Kept (modelForgot ps x .places) (λ (y : ℕ). heard y (acc y) (forget x) (isDone (toForgetting (modelForgot ps x .answer))))
   forgot-kept x = found (findIn ps x) refl
     where
@@ -175,7 +179,7 @@ module _ (ps : List Place) (acc : ℕ → List Accepted) (K : Kept ps acc) where
           let was : (y : ℕ) → names y (at ps k) ≡ true → y ≡ x = (λ y h. names-one (at ps k) y x h t) in
           let lone : (i : ℕ) → names x (at ps i) ≡ true → i ≡ k = (λ i h. K .once x i k h t) in
           changed-kept (forget x) k free x there only was lone
-          (set-none ps k free x there (K .once) only was lone refl ∙ rw (eq-eqb x x refl))
+          (set-none ps k free x there (K .once) only was lone refl ∙ ap (placeBy x) (sym (own-forgetting x)))
           (λ y n. rw (ne-eqb x y n))
       found Nothing e = refused-kept (forget x)
 
