@@ -1,25 +1,44 @@
 // Reads an arrival file from standard input, and prints the feedback on its streams or the file's first fault.
-use intake::Intake;
+ghost use Prim.Native.Nat.{_≤_};
+ghost use lib.ListN.{length};
+ghost use Rattle.line_report.specs.Report.{lineRoom};
+ghost use Rattle.ccfbline.specs.Output.{OutputFor};
 use libc::STDOUT_FILENO;
 use line_input::Input;
 
-// Prints the feedback on the input that was taken, or its first fault.
-fn print(places: &[u64], cells: &[u64], intake: Intake) {
-    let mut out = io::buffer();
-    let n = line::finish(places, cells, intake, &mut out);
-    let written = io::write_all(STDOUT_FILENO, &out[..n]);
+// What is to be printed, as so many octets at the front of the output; or the input could not be read.
+enum Output {
+    Text(usize),
+    Failed,
+}
+
+// Takes the input into a fresh store, and writes what is to be printed to the front of the output.
+fn put_output(out: &mut [u8]) -> Output
+    requires room { ⌜ lineRoom ≤ length (now out) ⌝ }
+    ensures after { λ r. ⌜ OutputFor (now (out .entry)) r (now (out .exit)) ⌝ }
+{
+    let mut places = line_store::fresh_places();
+    let mut cells = line_store::fresh_cells();
+    let mut buf = io::large_buffer();
+    let input = line_input::take_input(&mut places, &mut cells, &mut buf);
+    match input {
+        Input::Taken(intake) => Output::Text(line::finish(&places, &cells, intake, out)),
+        Input::Failed => Output::Failed,
+    }
+}
+
+fn print(text: &[u8]) {
+    let written = io::write_all(STDOUT_FILENO, text);
     if !written {
         os::fail(b"ccfbline: standard output");
     }
 }
 
 fn main() {
-    let mut places = line_store::fresh_places();
-    let mut cells = line_store::fresh_cells();
-    let mut buf = io::large_buffer();
-    let input = line_input::take_input(&mut places, &mut cells, &mut buf);
-    match input {
-        Input::Taken(intake) => print(&places, &cells, intake),
-        Input::Failed => os::fail(b"ccfbline: standard input"),
+    let mut out = io::buffer();
+    let output = put_output(&mut out);
+    match output {
+        Output::Text(n) => print(&out[..n]),
+        Output::Failed => os::fail(b"ccfbline: standard input"),
     }
 }

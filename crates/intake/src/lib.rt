@@ -1,5 +1,6 @@
 // Takes an arrival file into a store, piece by piece.
 ghost use mathlib.Core.Path.{_≡_};
+ghost use Rattle.places.specs.Shape.{Shaped};
 ghost use Rattle.intake.specs.Intake.{atStart, intakeAfter, fedOf};
 use arrival_file::Phase;
 
@@ -23,8 +24,10 @@ pub fn start() -> Intake
 }
 
 // Takes the next piece of a file. `octets` are those that the pieces before left, and then the piece; those that are
-// left now are moved to the front.
+// left now are moved to the front. Only ccfbline calls this, and its store has the right shape: with another one every
+// record would be passed over with refusal 4, and nobody told.
 pub fn feed(places: &mut [u64], cells: &mut [u64], intake: Intake, octets: &mut [u8]) -> Intake
+    requires shape { ⌜ Shaped (now places) (now cells) ⌝ }
     ensures after { λ r. ⌜
         intakeAfter r (now (places .exit)) (now (cells .exit)) (now (octets .exit))
         ≡ fedOf (now (places .entry)) (now (cells .entry)) intake (now (octets .entry)) ⌝ }

@@ -2,7 +2,10 @@
 ghost use Prim.Native.Nat.{_≤_, _<_};
 ghost use lib.ListN.{length};
 ghost use Rattle.arrival_record.specs.Record.{recordOctets};
-ghost use Rattle.line_input.specs.Turn.{bufferOctets, Short};
+ghost use Rattle.places.specs.Shape.{Shaped};
+ghost use Rattle.intake.specs.Intake.{intakeAfter};
+ghost use Rattle.line_input.specs.Turn.{bufferOctets, Short, TurnTaken};
+ghost use Rattle.line_input.specs.Taken.{InputTaken};
 use arrival_file::Phase;
 use intake::Intake;
 use libc::STDIN_FILENO;
@@ -25,7 +28,11 @@ pub enum Input {
 fn take_once(places: &mut [u64], cells: &mut [u64], buf: &mut [u8], intake: Intake) -> Turn
     requires few { ⌜ intake .left < recordOctets ⌝ }
     requires room { ⌜ bufferOctets ≤ length (now buf) ⌝ }
+    requires shape { ⌜ Shaped (now places) (now cells) ⌝ }
     ensures few { λ r. ⌜ Short r ⌝ }
+    ensures after { λ r. ⌜
+        TurnTaken (intakeAfter intake (now (places .entry)) (now (cells .entry)) (now (buf .entry)))
+        r (now (places .exit)) (now (cells .exit)) (now (buf .exit)) ⌝ }
 {
     let left = intake.left;
     let got = libc::read(STDIN_FILENO, &mut buf[left..]);
@@ -46,9 +53,13 @@ fn take_once(places: &mut [u64], cells: &mut [u64], buf: &mut [u8], intake: Inta
 }
 
 // Takes the input, of any length. A proved loop has to end, and nothing says that an input does: the turns count down
-// from a number that no run uses up. The contract says that this is safe and ends, and nothing of what is taken.
+// from a number that no run uses up.
 pub fn take_input(places: &mut [u64], cells: &mut [u64], buf: &mut [u8]) -> Input
     requires room { ⌜ bufferOctets ≤ length (now buf) ⌝ }
+    requires shape { ⌜ Shaped (now places) (now cells) ⌝ }
+    ensures after { λ r. ⌜
+        InputTaken (now (places .entry)) (now (cells .entry))
+        r (now (places .exit)) (now (cells .exit)) (now (buf .exit)) ⌝ }
 {
     let mut intake = intake::start();
     let mut turns = u64::MAX;

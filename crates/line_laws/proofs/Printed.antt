@@ -1,5 +1,5 @@
 -- What ccfbline prints is what the definitions say, wherever the file is cut. Assumes nothing.
-use Prim.Native.Nat.{ℕ, _*_, _≤_}
+use Prim.Native.Nat.{ℕ, _*_, _≤_, _<_}
 use mathlib.Core.Path.{_≡_, refl, sym, ap, _∙_, subst}
 use mathlib.Core.Bool.{true≢false}
 use mathlib.Core.Logic.{_⊎_, ⊎-elim}
@@ -7,9 +7,10 @@ use mathlib.Core.List.{List, [], _∷_, _++_, append-nil, append-assoc, map, fol
 use native.Mathlib.Omega.{arith}
 use lib.ListN.{length, length-replicate}
 use Rattle.lists.specs.All.{All}
+use Rattle.lists.proofs.All.{all-left}
 use Rattle.refusal.specs.declared.Refusal.{Refusal}
 use Rattle.octets.specs.Output.{outputAfter}
-use Rattle.octets.specs.Octets.{Octets}
+use Rattle.octets.specs.Octets.{Octets, octetValues}
 use Rattle.metric.specs.declared.Time.{Time}
 use Rattle.metric.specs.Metric.{congested}
 use Rattle.ring.specs.Ring.{cellsOfAPlace}
@@ -26,7 +27,7 @@ use Rattle.history.proofs.ByHistory.{same-reading, no-ssrc-twice}
 use Rattle.history.proofs.Refusals.{arrival-given}
 use Rattle.arrival_record.specs.declared.Record.{Record}
 use Rattle.arrival_file.specs.File.{Result, sound, faulty, endOf, fileOf}
-use Rattle.arrival_file.specs.Pieces.{resultOf, ended, allTaken, takenHere}
+use Rattle.arrival_file.specs.Pieces.{Feeding, resultOf, ended, allTaken, takenHere}
 use Rattle.arrival_file.specs.declared.Check.{Check}
 use Rattle.recording.specs.Recorded.{Recorded, recorded, lastKnown, afterRecord}
 use Rattle.intake.specs.Intake.{leftOf, fedNext, heldIn}
@@ -109,14 +110,21 @@ whole-is s o = go (fileOf s) (λ rs e. file-range s rs o e)
     go (sound rs) range = report-is (foldl afterRecord fresh rs) (reached rs (range rs refl))
     go (faulty e) range = refl
 
+-- Where a caller has what the calls of `feed` with these pieces leave, whatever else is in its buffer: `finish` writes what
+-- is printed for the whole file.
+pub prints-held : (ps : List (List ℕ)) → Octets (flatten ps) → (o : intake.IntakeAfter) → length (leftOf o) ≡ o .intake .left
+    → heldIn o ≡ heldIn (fedPieces ps) → finishedText (o .places) (o .cells) (o .intake) ≡ printed (flatten ps)
+prints-held ps octets o left e =
+    finished-is o left
+    ∙ ap (λ (f : Feeding Recorded). textOf (ended f)) e
+    ∙ ap textOf (all-calls freshPlaces freshCells ps)
+    ∙ whole-is (flatten ps) octets
+
 -- Wherever a file of octets is cut into pieces: once they are fed, into a fresh store of four places, `finish` writes
 -- what is printed for the whole file.
 pub prints : (ps : List (List ℕ)) → Octets (flatten ps)
     → finishedText (fedPieces ps .places) (fedPieces ps .cells) (fedPieces ps .intake) ≡ printed (flatten ps)
-prints ps o =
-    finished-is (fedPieces ps) (calls-left (intake.intakeAfter intake.atStart freshPlaces freshCells []) ps refl)
-    ∙ ap textOf (all-calls freshPlaces freshCells ps)
-    ∙ whole-is (flatten ps) o
+prints ps o = prints-held ps o (fedPieces ps) (calls-left (intake.intakeAfter intake.atStart freshPlaces freshCells []) ps refl) refl
 
 -- the contract of `finish`, after those calls: the output holds what is printed for the whole file, and the answer is
 -- its length
@@ -153,6 +161,11 @@ prints-early ps rest e o h =
     ∙ sym (faulty-text (fedPieces (ps ++ rest ∷ []) .places) (fedPieces (ps ++ rest ∷ []) .cells) (fedPieces (ps ++ rest ∷ []) .intake) e phase)
     ∙ prints (ps ++ rest ∷ []) (subst Octets (sym all) o)
     ∙ ap printed all
+
+-- So the rest of a file changes nothing of what is printed.
+pub fault-decides : (ps : List (List ℕ)) (rest : List ℕ) (e : Refusal) → Octets (flatten ps ++ rest) → fedPieces ps .intake .phase ≡ Faulty e
+    → printed (flatten ps ++ rest) ≡ printed (flatten ps)
+fault-decides ps rest e o h = sym (prints-early ps rest e o h) ∙ prints ps (all-left (λ x. x < octetValues) (flatten ps) rest o)
 
 -- ---- no record is refused but with 2 or 3
 

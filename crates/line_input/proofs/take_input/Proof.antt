@@ -1,23 +1,25 @@
--- `line_input::take_input` is safe and ends: the measure is the turns that are left. Assumes nothing.
-use Prim.Native.Nat.{_<_}
-use mathlib.Core.Path.{_≡_, refl, _∙_, subst}
+-- `line_input::take_input` meets its contract. The invariant: the program has what the pieces read so far leave. The measure is
+-- the turns that are left. Assumes nothing.
+use mathlib.Core.Path.{_≡_, refl, _∙_}
+use mathlib.Core.List.{[]}
 use native.Mathlib.Omega.{arith}
 use borrow.Author.Needs.{needs}
 use lib.ListN.{length}
-use Rattle.arrival_record.specs.Record.{recordOctets}
-use Rattle.line_input.specs.Turn.{Short}
+use Rattle.intake.specs.Intake.{intakeAfter, atStart}
+use Rattle.line_input.proofs.Read.{Going, none-taken, more-taken, last-taken, shape-kept}
 use Rattle.line_input.proofs.take_input.Statement.{statement}
 use Rattle.line_input.proofs.take_input.Tie as tie
 
 abbrev Inv-loop : tie.InvT-loop
 Inv-loop places₀ cells₀ buf₀ intake₀ turns₀ places cells buf intake turns =
-    (length places ≡ length places₀) × (length cells ≡ length cells₀) × (length buf ≡ length buf₀) × (intake .left < recordOctets)
+    (length places ≡ length places₀) × (length cells ≡ length cells₀) × (length buf ≡ length buf₀)
+    × Going (intakeAfter atStart places₀ cells₀ []) (intakeAfter intake places cells buf)
 
 abbrev μ-loop : tie.MeasureT-loop
 μ-loop places₀ cells₀ buf₀ intake₀ turns₀ places cells buf intake turns = turns
 
 loop-holds : tie.Need-loop-holds Inv-loop μ-loop
-loop-holds c = (refl, refl, refl, rw (c .start .ensures) (omega arith))
+loop-holds c = (refl, refl, refl, none-taken _ _ _ _ (c .start .ensures))
 
 take-once-requires : tie.Need-take-once-requires Inv-loop μ-loop
 take-once-requires c κs =
@@ -25,7 +27,7 @@ take-once-requires c κs =
     let loop = at-loop .loop in
     let after-slice-known = at-loop .before .before .before .before in
     let pre = after-slice-known .before .pre in
-    (loop .inv .3, omega (arith, loop .inv .2, pre))
+    (loop .inv .3 .0 .few, (omega (arith, loop .inv .2, pre), shape-kept _ _ _ _ (pre .1) (loop .inv .0) (loop .inv .1)))
 
 sub-turns : tie.Need-sub-turns Inv-loop μ-loop
 sub-turns c = omega arith
@@ -40,8 +42,12 @@ loop-again c =
     let after-take-once = after-cells .before .before .before in
     let in-loop = after-take-once .before .before .before .before in
     let t = after-take-once .take-once in
-    let l = in-loop .before .loop in
-    (t .kept .0 ∙ l .inv .0, t .kept .1 .0 ∙ l .inv .1, t .kept .1 .1 .0 ∙ l .inv .2, subst Short (c .before .here .given .1) (t .ensures))
+    let l = in-loop .before .loop in (
+      t .kept .0 ∙ l .inv .0,
+      t .kept .1 .0 ∙ l .inv .1,
+      t .kept .1 .1 .0 ∙ l .inv .2,
+      more-taken _ _ (l .inv .3) _ _ _ _ _ (t .ensures) (c .before .here .given .1),
+    )
 
 same-length : tie.Need-same-length Inv-loop μ-loop
 same-length c =
@@ -69,6 +75,14 @@ same-length-3 c =
     let in-loop = after-take-once .before .before .before .before in
     let loop = in-loop .before .loop in
     after-take-once .take-once .kept .1 .1 .0 ∙ loop .inv .2
+
+returns : tie.Need-returns Inv-loop μ-loop
+returns c =
+    let at-match-keys2 = c .before .before in
+    let after-cells = at-match-keys2 .before .before .before .before in
+    let after-take-once = after-cells .before .before .before in
+    let in-loop = after-take-once .before .before .before .before in
+    last-taken _ _ (in-loop .before .loop .inv .3) _ _ _ _ _ (after-take-once .take-once .ensures) (c .before .here2 .given .1)
 
 same-length-4 : tie.Need-same-length-4 Inv-loop μ-loop
 same-length-4 c =
@@ -120,7 +134,8 @@ take-input-spec =
     same-length
     same-length-2
     same-length-3
-    (λ c. search needs) (λ c. search needs)
+    returns
+    (λ c. search needs)
     same-length-4
     same-length-5
     same-length-6
