@@ -22,7 +22,10 @@ fn put_output(out: &mut [u8]) -> Output
     let mut buf = io::large_buffer();
     let input = line_input::take_input(&mut places, &mut cells, &mut buf);
     match input {
-        Input::Taken(intake) => Output::Text(line::finish(&places, &cells, intake, out)),
+        Input::Taken(intake) => {
+            let n = line::finish(&places, &cells, intake, out);
+            Output::Text(n)
+        }
         Input::Failed => Output::Failed,
     }
 }

@@ -123,19 +123,19 @@ module _ (first now after : IntakeAfter) (going : Going first now) (few : after 
 
 -- what a turn leaves, by its answer
 module _ (first now : IntakeAfter) (going : Going first now) (r : Turn) (i : Intake) (places cells buf : List ℕ)
-    (turn : Short r × TurnTaken now r places cells buf) where
-  turned : (q : Turn) → r ≡ q → Short q × TurnTaken now q places cells buf
-  turned q e = subst (λ (q : Turn). Short q × TurnTaken now q places cells buf) e turn
+    (turn : TurnTaken now r places cells buf × Short r) where
+  turned : (q : Turn) → r ≡ q → TurnTaken now q places cells buf × Short q
+  turned q e = subst (λ (q : Turn). TurnTaken now q places cells buf × Short q) e turn
 
   pub more-taken : r ≡ More i → Going first (intakeAfter i places cells buf)
   more-taken e =
       let t = turned (More i) e in
-      (one-more first now (intakeAfter i places cells buf) going (t .0) (t .1 .0), t .1 .1)
+      (one-more first now (intakeAfter i places cells buf) going (t .1) (t .0 .0), t .0 .1)
 
   pub last-taken : r ≡ Done i → PiecesTaken first (intakeAfter i places cells buf)
   last-taken e =
       let t = turned (Done i) e in
-      the-last first now (intakeAfter i places cells buf) going (t .0) (t .1)
+      the-last first now (intakeAfter i places cells buf) going (t .1) (t .0)
 
 -- a store that keeps its lengths keeps its shape
 pub shape-kept : (places cells places′ cells′ : List ℕ) → Shaped places cells → length places′ ≡ length places → length cells′ ≡ length cells

@@ -22,7 +22,7 @@ Short (Done i) = i .left < recordOctets
 Short Failed = Unit {0}
 
 -- A read gave a piece of the file. What the program then has is what `feed` leaves, called with what there was before and
--- this piece.
+-- this piece. No contract can say which octets a read gives; that they are the next of the input is tested.
 pub record PieceTaken (before after : IntakeAfter) : Type 0 where
   pub piece : List ℕ
   pub octets : Octets piece

@@ -29,10 +29,10 @@ fn take_once(places: &mut [u64], cells: &mut [u64], buf: &mut [u8], intake: Inta
     requires few { ⌜ intake .left < recordOctets ⌝ }
     requires room { ⌜ bufferOctets ≤ length (now buf) ⌝ }
     requires shape { ⌜ Shaped (now places) (now cells) ⌝ }
-    ensures few { λ r. ⌜ Short r ⌝ }
     ensures after { λ r. ⌜
         TurnTaken (intakeAfter intake (now (places .entry)) (now (cells .entry)) (now (buf .entry)))
         r (now (places .exit)) (now (cells .exit)) (now (buf .exit)) ⌝ }
+    ensures few { λ r. ⌜ Short r ⌝ }
 {
     let left = intake.left;
     let got = libc::read(STDIN_FILENO, &mut buf[left..]);
@@ -44,12 +44,12 @@ fn take_once(places: &mut [u64], cells: &mut [u64], buf: &mut [u8], intake: Inta
         return Turn::Done(intake);
     }
     let end = left + n;
-    let next = intake::feed(places, cells, intake, &mut buf[..end]);
-    let phase = next.phase;
+    let fed = intake::feed(places, cells, intake, &mut buf[..end]);
+    let phase = fed.phase;
     if let Phase::Faulty(_) = phase {
-        return Turn::Done(next);
+        return Turn::Done(fed);
     }
-    Turn::More(next)
+    Turn::More(fed)
 }
 
 // Takes the input, of any length. A proved loop has to end, and nothing says that an input does: the turns count down

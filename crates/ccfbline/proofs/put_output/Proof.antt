@@ -5,6 +5,9 @@ use borrow.Author.Needs.{needs}
 use Rattle.ccfbline.proofs.put_output.Statement.{statement}
 use Rattle.ccfbline.proofs.put_output.Tie as tie
 
+take-input-requires : tie.Need-take-input-requires
+take-input-requires c κs = search needs
+
 returns : tie.Need-returns
 returns c =
     let after-finish = c .before .before in
@@ -23,7 +26,8 @@ put-output-spec =
     tie.close
     (tie.spec
     (λ c κs. search needs) (λ c κs. search needs) (λ c κs. search needs) (λ c. search needs) (λ c. search needs)
-    (λ c. search needs) (λ c κs. search needs) (λ c. search needs) (λ c. search needs) (λ c. search needs)
-    (λ c κs. search needs) (λ c. search needs) (λ c. search needs)
+    (λ c. search needs)
+    take-input-requires
+    (λ c. search needs) (λ c. search needs) (λ c. search needs) (λ c κs. search needs) (λ c. search needs) (λ c. search needs)
     returns
     (λ c. search needs))

@@ -35,78 +35,47 @@ sub-turns c = omega arith
 loop-less : tie.Need-loop-less Inv-loop μ-loop
 loop-less c = omega arith
 
+-- a turn keeps the lengths
+lengths : (c : tie.After-take-once Inv-loop μ-loop) →
+    let start = c .before .before .before .before .before .before .before .before .before .before in
+    (length (c .take-once .last .0) ≡ length (start .args .places .now))
+    × (length (c .take-once .last .1 .0) ≡ length (start .args .cells .now))
+    × (length (c .take-once .last .1 .1 .0) ≡ length (start .args .buf .now))
+lengths c =
+    let l = c .before .before .before .before .before .loop in
+    let t = c .take-once in
+    (t .kept .0 ∙ l .inv .0, t .kept .1 .0 ∙ l .inv .1, t .kept .1 .1 .0 ∙ l .inv .2)
+
 loop-again : tie.Need-loop-again Inv-loop μ-loop
 loop-again c =
-    let at-match-keys1 = c .before .before in
-    let after-cells = at-match-keys1 .before .before .before .before in
-    let after-take-once = after-cells .before .before .before in
-    let in-loop = after-take-once .before .before .before .before in
-    let t = after-take-once .take-once in
-    let l = in-loop .before .loop in (
-      t .kept .0 ∙ l .inv .0,
-      t .kept .1 .0 ∙ l .inv .1,
-      t .kept .1 .1 .0 ∙ l .inv .2,
-      more-taken _ _ (l .inv .3) _ _ _ _ _ (t .ensures) (c .before .here .given .1),
-    )
+    let turn = c .before .before .before .before .before .before .before .before .before in
+    let l = turn .before .before .before .before .before .loop in
+    let n = lengths turn in
+    (n .0, n .1, n .2, more-taken _ _ (l .inv .3) _ _ _ _ _ (turn .take-once .ensures) (c .before .here .given .1))
 
 same-length : tie.Need-same-length Inv-loop μ-loop
-same-length c =
-    let at-match-keys2 = c .before .before in
-    let after-cells = at-match-keys2 .before .before .before .before in
-    let after-take-once = after-cells .before .before .before in
-    let in-loop = after-take-once .before .before .before .before in
-    let loop = in-loop .before .loop in
-    after-take-once .take-once .kept .0 ∙ loop .inv .0
+same-length c = lengths (c .before .before .before .before .before .before .before .before .before) .0
 
 same-length-2 : tie.Need-same-length-2 Inv-loop μ-loop
-same-length-2 c =
-    let at-match-keys2 = c .before .before in
-    let after-cells = at-match-keys2 .before .before .before .before in
-    let after-take-once = after-cells .before .before .before in
-    let in-loop = after-take-once .before .before .before .before in
-    let loop = in-loop .before .loop in
-    after-take-once .take-once .kept .1 .0 ∙ loop .inv .1
+same-length-2 c = lengths (c .before .before .before .before .before .before .before .before .before) .1
 
 same-length-3 : tie.Need-same-length-3 Inv-loop μ-loop
-same-length-3 c =
-    let at-match-keys2 = c .before .before in
-    let after-cells = at-match-keys2 .before .before .before .before in
-    let after-take-once = after-cells .before .before .before in
-    let in-loop = after-take-once .before .before .before .before in
-    let loop = in-loop .before .loop in
-    after-take-once .take-once .kept .1 .1 .0 ∙ loop .inv .2
+same-length-3 c = lengths (c .before .before .before .before .before .before .before .before .before) .2
 
 returns : tie.Need-returns Inv-loop μ-loop
 returns c =
-    let at-match-keys2 = c .before .before in
-    let after-cells = at-match-keys2 .before .before .before .before in
-    let after-take-once = after-cells .before .before .before in
-    let in-loop = after-take-once .before .before .before .before in
-    last-taken _ _ (in-loop .before .loop .inv .3) _ _ _ _ _ (after-take-once .take-once .ensures) (c .before .here2 .given .1)
+    let turn = c .before .before .before .before .before .before .before .before .before in
+    let l = turn .before .before .before .before .before .loop in
+    last-taken _ _ (l .inv .3) _ _ _ _ _ (turn .take-once .ensures) (c .before .here2 .given .1)
 
 same-length-4 : tie.Need-same-length-4 Inv-loop μ-loop
-same-length-4 c =
-    let after-slice-known5 = c .before .before .before .before in
-    let after-take-once = after-slice-known5 .before .before .before .before in
-    let in-loop = after-take-once .before .before .before .before in
-    let loop = in-loop .before .loop in
-    after-take-once .take-once .kept .0 ∙ loop .inv .0
+same-length-4 c = lengths (c .before .before .before .before .before .before .before .before) .0
 
 same-length-5 : tie.Need-same-length-5 Inv-loop μ-loop
-same-length-5 c =
-    let after-slice-known5 = c .before .before .before .before in
-    let after-take-once = after-slice-known5 .before .before .before .before in
-    let in-loop = after-take-once .before .before .before .before in
-    let loop = in-loop .before .loop in
-    after-take-once .take-once .kept .1 .0 ∙ loop .inv .1
+same-length-5 c = lengths (c .before .before .before .before .before .before .before .before) .1
 
 same-length-6 : tie.Need-same-length-6 Inv-loop μ-loop
-same-length-6 c =
-    let after-slice-known5 = c .before .before .before .before in
-    let after-take-once = after-slice-known5 .before .before .before .before in
-    let in-loop = after-take-once .before .before .before .before in
-    let loop = in-loop .before .loop in
-    after-take-once .take-once .kept .1 .1 .0 ∙ loop .inv .2
+same-length-6 c = lengths (c .before .before .before .before .before .before .before .before) .2
 
 same-length-7 : tie.Need-same-length-7 Inv-loop μ-loop
 same-length-7 c = c .before .loop .inv .0

@@ -22,7 +22,7 @@ returns-2 c =
     let after-read = known .before .before in
     let start = after-read .before .before .before .before .before in
     let a = start .args in
-    (start .pre .0, LastTaken.atEnd (ended-is (a .intake) (a .places .now) (a .cells .now) (a .buf .now) (after-read .read .last .1 .0) (omega (arith, start .pre))))
+    (LastTaken.atEnd (ended-is (a .intake) (a .places .now) (a .cells .now) (a .buf .now) (after-read .read .last .1 .0) (omega (arith, start .pre))), start .pre .0)
 
 slice-aggregate-feed : tie.Need-slice-aggregate-feed
 slice-aggregate-feed c = sym (length-take-le _ _ (search needs))
@@ -55,12 +55,12 @@ other-key x h e = ⊎-elim (λ a. omega arith) (λ b. omega arith) h
 returns-3 : tie.Need-returns-3
 returns-3 c =
     let after-feed = c .before .before .before .before .before .before .before .before in
-    (fed-short after-feed, LastTaken.atFault _ (c .enum-told .given .1) (fed-piece after-feed _))
+    (LastTaken.atFault _ (c .enum-told .given .1) (fed-piece after-feed _), fed-short after-feed)
 
 returns-4 : tie.Need-returns-4
 returns-4 c =
     let after-feed = c .before .before .before .before .before .before .before in
-    (fed-short after-feed, (fed-piece after-feed _, λ e h. other-key _ (c .match .keys2) (ap (tagOf Phase.the-type) h)))
+    ((fed-piece after-feed _, λ e h. other-key _ (c .match .keys2) (ap (tagOf Phase.the-type) h)), fed-short after-feed)
 
 pub take-once-spec : {M : Type 1} → statement M
 take-once-spec =
