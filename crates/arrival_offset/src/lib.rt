@@ -11,7 +11,7 @@ const LONGEST_AGE: u32 = 524096;
 // An offset counts 64 units of time. An age of 2^31 or more counts as a time after RTS.
 const OFFSET_UNIT: u32 = 64;
 
-const AFTER_RTS: u32 = 0x8000_0000;
+pub const AFTER_RTS: u32 = 0x8000_0000;
 
 // How many values a u16 has: a cast of less loses nothing.
 const U16S: u32 = 0x1_0000;
