@@ -9,7 +9,7 @@ use Rattle.refusal.specs.declared.Refusal.{Refusal}
 use Rattle.window.specs.Number.{moveOf}
 use Rattle.ring.specs.Ring.{cellsOfAPlace, emptied}
 use Rattle.window.specs.declared.Move.{Move}
-use Rattle.ring.proofs.Ring.{length-emptied, emptied-last}
+use Rattle.ring.proofs.Ring.{length-emptied, emptied-set, emptied-last}
 use Rattle.places.specs.Place.{highestAt}
 use Rattle.place_window.specs.Window.{cellIndex, newestEmptied, opened, updated, movedBy, continued}
 
@@ -28,10 +28,13 @@ module _ (cells : List ℕ) (p number n : ℕ) (some : 0 < n) (few : n ≤ cells
       let own : cellsOfAPlace * p + (first + (n - 1)) % cellsOfAPlace ≡ cellIndex p number = omega arith in
       emptied-last cells (cellsOfAPlace * p) first n some ∙ rw own
 
-  -- so it need not be emptied before it is written
-  pub opens : (word : ℕ) → set others (cellIndex p number) word ≡ opened cells p number n word
+  -- and none of the others, so it may be written before they are emptied
+  own-apart : (i : ℕ) → i < n - 1 → cellIndex p number ≡ cellsOfAPlace * p + (first + i) % cellsOfAPlace → ⊥
+  own-apart i l e = omega arith
+
+  pub opens : (word : ℕ) → emptied (set cells (cellIndex p number) word) (cellsOfAPlace * p) first (n - 1) ≡ opened cells p number n word
   unfolding opened
-  opens word = rw (own-last, set-set)
+  opens word = rw (own-last, set-set) (emptied-set (n - 1) cells (cellsOfAPlace * p) first (cellIndex p number) word own-apart)
 
   -- f makes of the number's own word what it makes of 0
   pub opened-updated : (f : ℕ → ℕ) → cellsOfAPlace * p + cellsOfAPlace ≤ length cells

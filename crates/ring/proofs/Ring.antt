@@ -6,7 +6,7 @@ use native.Mathlib.Omega.{arith}
 use native.Mathlib.Nat.{not-suc-le-zero}
 use native.Mathlib.Decide.{ℕ-discrete, decLt}
 use lib.ListN.{length, getD, set, length-set}
-use lib.Seq.{getD-set-same, getD-set-other, set-out}
+use lib.Seq.{getD-set-same, getD-set-other, set-out, set-comm}
 use Rattle.ring.specs.Ring.{emptied, cellsOfAPlace}
 use Rattle.ring.specs.Steps.{cleared}
 
@@ -35,6 +35,15 @@ emptied-kept zero words base s j h = refl
 emptied-kept (suc k) words base s j h =
     emptied-kept k (set words (base + s % cellsOfAPlace) 0) base (s + 1) j (λ i l e. h (i + 1) (omega arith) (omega arith))
     ∙ getD-set-other words (base + s % cellsOfAPlace) j 0 0 (λ e. h 0 (omega arith) (omega arith))
+
+-- a word that stands outside the run may be written before it or after it
+pub emptied-set : (k : ℕ) (words : List ℕ) (base s j word : ℕ) → ((i : ℕ) → i < k → j ≡ base + (s + i) % cellsOfAPlace → ⊥)
+    → emptied (set words j word) base s k ≡ set (emptied words base s k) j word
+unfolding emptied
+emptied-set zero words base s j word h = refl
+emptied-set (suc k) words base s j word h =
+    ap (λ (l : List ℕ). emptied l base (s + 1) k) (set-comm words j (base + s % cellsOfAPlace) word 0 (λ e. h 0 (omega arith) (omega arith)))
+    ∙ emptied-set k (set words (base + s % cellsOfAPlace) 0) base (s + 1) j word (λ i l e. h (i + 1) (omega arith) (omega arith))
 
 set-zero : (words : List ℕ) (x j : ℕ) → getD words j 0 ≡ 0 → getD (set words x 0) j 0 ≡ 0
 set-zero words x j z =

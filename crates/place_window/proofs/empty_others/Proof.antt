@@ -1,0 +1,18 @@
+-- `place_window::empty_others` meets its contract. Assumes nothing.
+use mathlib.Core.Path.{sym}
+use native.Mathlib.Omega.{arith}
+use borrow.Author.Needs.{needs}
+use Rattle.ring.proofs.Ring.{emptied-none}
+use Rattle.place_window.proofs.empty_others.Statement.{statement}
+use Rattle.place_window.proofs.empty_others.Tie as tie
+
+returns : tie.Need-returns
+returns c = sym (emptied-none _ _ _ _ (omega (arith, c .if1 .taken)))
+
+pub empty-others-spec : {M : Type 1} → statement M
+empty-others-spec =
+    tie.close
+    (tie.spec
+    returns
+    (λ c. search needs) (λ c. search needs) (λ c. search needs) (λ c. search needs) (λ c. search needs)
+    (λ c κs. search needs) (λ c. search needs) (λ c. search needs))
