@@ -39,21 +39,29 @@ fn row<C: Copy, S>(
     mut prepare: impl FnMut(C) -> S,
     work: impl Fn(C, &mut S),
 ) -> Row {
-    let mut timed = |calls: C| {
-        // The table passes through black_box, so that no call is known at compile time.
-        let calls = std::hint::black_box(calls);
-        let mut state = prepare(calls);
-        let start = Instant::now();
-        work(calls, &mut state);
-        start.elapsed()
-    };
     let mut best = (Duration::MAX, Duration::MAX);
     for _ in 0..RUNS {
         if let Some(calls) = ours {
-            best.0 = best.0.min(timed(calls));
+            best.0 = best.0.min(timed(calls, &mut prepare, &work));
         }
-        best.1 = best.1.min(timed(baseline));
+        best.1 = best.1.min(timed(baseline, &mut prepare, &work));
     }
     let a_step = |time: Duration| time.as_nanos() as f64 / steps as f64;
     Row { name: name.to_string(), ours: ours.map(|_| a_step(best.0)), baseline: a_step(best.1) }
+}
+
+/// One run. Never inlined, so that ours and the baseline are called by one and the same loop: two
+/// copies of a loop differ in where they stand in memory, and a short row in its time with them.
+#[inline(never)]
+fn timed<C: Copy, S>(
+    calls: C,
+    prepare: &mut impl FnMut(C) -> S,
+    work: &impl Fn(C, &mut S),
+) -> Duration {
+    // The table passes through black_box, so that no call is known at compile time.
+    let calls = std::hint::black_box(calls);
+    let mut state = prepare(calls);
+    let start = Instant::now();
+    work(calls, &mut state);
+    start.elapsed()
 }
