@@ -1,4 +1,7 @@
 -- `arrival_file::check_end` meets its contract. Assumes nothing.
+use mathlib.Core.Path.{_≡_}
+use mathlib.Core.Bool.{true, false}
+use lib.Dec.{eqb}
 use borrow.Author.Tests.{eq-eqb, ne-eqb}
 use borrow.Author.Needs.{needs}
 use Rattle.arrival_file.proofs.check_end.Statement.{statement}
@@ -8,10 +11,14 @@ returns : tie.Need-returns
 returns c = rw (c .enum-told .given .1)
 
 returns-2 : tie.Need-returns-2
-returns-2 c = rw (c .before .enum-told2 .given .1, eq-eqb _ _ (c .if1 .taken))
+returns-2 c =
+    let none : eqb (c .before .before .before .args .left) 0 ≡ true = eq-eqb _ _ (c .if1 .taken) in
+    rw (c .before .enum-told2 .given .1, none)
 
 returns-3 : tie.Need-returns-3
-returns-3 c = rw (c .before .enum-told2 .given .1, ne-eqb _ _ (c .if1 .left))
+returns-3 c =
+    let some : eqb (c .before .before .before .args .left) 0 ≡ false = ne-eqb _ _ (c .if1 .left) in
+    rw (c .before .enum-told2 .given .1, some)
 
 returns-4 : tie.Need-returns-4
 returns-4 c = rw (c .before .phase .given .1)

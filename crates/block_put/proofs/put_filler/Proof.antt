@@ -1,4 +1,8 @@
 -- `block_put::put_filler` meets its contract. Assumes nothing.
+use Prim.Native.Nat.{_%_}
+use mathlib.Core.Path.{_≡_}
+use mathlib.Core.Bool.{true}
+use lib.Dec.{eqb}
 use borrow.Author.Tests.{eq-eqb, ne-eqb}
 use Rattle.packet.specs.Packet.{filler}
 use borrow.Author.Needs.{needs}
@@ -7,7 +11,9 @@ use Rattle.block_put.proofs.put_filler.Tie as tie
 
 returns : tie.Need-returns
 unfolding filler
-returns c = simp (eq-eqb _ _ (c .if1 .taken))
+returns c =
+    let even : eqb (c .before .before .args .num-reports % 2) 0 ≡ true = eq-eqb _ _ (c .if1 .taken) in
+    simp even
 
 returns-2 : tie.Need-returns-2
 unfolding filler

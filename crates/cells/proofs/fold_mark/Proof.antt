@@ -1,12 +1,18 @@
 -- `cells::fold_mark` meets its contract. Assumes nothing.
+use mathlib.Core.Path.{_≡_}
+use mathlib.Core.Bool.{true}
+use lib.Dec.{eqb}
 use borrow.Author.Tests.{eq-eqb, ne-eqb}
+use Rattle.metric.specs.Metric.{congested}
 use Rattle.cells.specs.Cell.{foldedMark}
 use Rattle.cells.proofs.fold_mark.Statement.{statement}
 use Rattle.cells.proofs.fold_mark.Tie as tie
 
 returns : tie.Need-returns
 unfolding foldedMark
-returns c = simp (eq-eqb _ _ (c .if1 .taken))
+returns c =
+    let carried : eqb (c .before .args .copy) congested ≡ true = eq-eqb _ _ (c .if1 .taken) in
+    simp carried
 
 returns-2 : tie.Need-returns-2
 unfolding foldedMark

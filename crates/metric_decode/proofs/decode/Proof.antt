@@ -1,13 +1,18 @@
 -- `metric_decode::decode` meets its contract. Assumes nothing.
+use mathlib.Core.Path.{_≡_}
+use mathlib.Core.Bool.{true}
+use lib.Dec.{ltb}
 use borrow.Author.Tests.{lt-ltb, le-ltb, eq-eqb, ne-eqb}
-use Rattle.metric.specs.Metric.{decodeOf}
+use Rattle.metric.specs.Metric.{decodeOf, receivedBit}
 use borrow.Author.Needs.{needs}
 use Rattle.metric_decode.proofs.decode.Statement.{statement}
 use Rattle.metric_decode.proofs.decode.Tie as tie
 
 returns : tie.Need-returns
 unfolding decodeOf
-returns c = simp (lt-ltb _ _ (c .if1 .taken))
+returns c =
+    let lost : ltb (c .before .args .m) receivedBit ≡ true = lt-ltb _ _ (c .if1 .taken) in
+    simp lost
 
 returns-2 : tie.Need-returns-2
 unfolding decodeOf

@@ -1,13 +1,19 @@
 -- `record_fault::is_faulty` meets its contract. Assumes nothing.
+use mathlib.Core.Path.{_≡_}
+use mathlib.Core.Bool.{true}
 use native.Mathlib.Omega.{arith}
+use lib.Dec.{ltb}
 use borrow.Author.Tests.{lt-ltb, le-ltb, eq-eqb}
+use Rattle.metric.specs.Metric.{congested}
 use Rattle.record_fault.specs.Fault.{isFaulty}
 use Rattle.record_fault.proofs.is_faulty.Statement.{statement}
 use Rattle.record_fault.proofs.is_faulty.Tie as tie
 
 returns : tie.Need-returns
 unfolding isFaulty
-returns c = simp (lt-ltb _ _ (c .if1 .taken))
+returns c =
+    let above : ltb congested (c .before .args .mark) ≡ true = lt-ltb _ _ (c .if1 .taken) in
+    simp above
 
 returns-2 : tie.Need-returns-2
 unfolding isFaulty
