@@ -1,4 +1,5 @@
 -- `line_refusal::put_refused` meets its contract. Assumes nothing.
+use mathlib.Core.Path.{refl}
 use native.Mathlib.Omega.{arith}
 use lib.ListN.{length-set}
 use borrow.Author.Needs.{needs}
@@ -23,6 +24,9 @@ slice-write-out-6 c = simp length-set (omega arith)
 slice-write-out-7 : tie.Need-slice-write-out-7
 slice-write-out-7 c = simp length-set (omega arith)
 
+returns : tie.Need-returns
+returns c = refl
+
 pub put-refused-spec : {M : Type 1} → statement M
 put-refused-spec =
     tie.close
@@ -34,4 +38,5 @@ put-refused-spec =
     slice-write-out-5
     slice-write-out-6
     slice-write-out-7
-    (λ c. search needs) (λ c. search needs) (λ c. search needs))
+    (λ c. search needs) (λ c. search needs)
+    returns)
