@@ -36,21 +36,6 @@ sub-count c =
     let h : a .n ≤ length (a .t5) = omega (arith, s .good, s .pre .0) in
     range-at (a .t5) (a .n) h (l .i) (l .reported) (in-loop .loop-test .taken) (l .inv .2)
 
-put-block-requires : tie.Need-put-block-requires Inv-loop μ-loop
-put-block-requires c κs =
-    let after-next-block = c .before .before .before .before in
-    let in-loop = after-next-block .before .before .before .before in
-    let l = in-loop .before .loop in
-    let s = in-loop .before .before .before .before in
-    let a = s .args in
-    let h : a .n ≤ length (a .t5) = omega (arith, s .good, s .pre .0) in
-    let d : l .i < a .n = in-loop .loop-test .taken in
-    let m = metricFound (a .cells .now) (a .rts) (a .found .now) in
-    let rs = take (a .n) (a .t5) in
-    let e = next-whole (a .t5) (a .n) h (l .i) (l .reported) (l .room) _ d refl
-    (sym (after-next-block .next-block .ensures) ∙ c .before .before .enum-told .given .1) in
-    (omega (arith, filling-room m rs _ _ _ _ _ _ (l .inv .3) _ _ e, l .inv .0, s .pre .1 .1), s .pre .0 .held (l .i) d)
-
 sub-room-2 : tie.Need-sub-room-2 Inv-loop μ-loop
 sub-room-2 c =
     let after-put-block-arg2 = c .before .before .before .before in
@@ -84,6 +69,21 @@ loop-again c =
       range-start (a .t5) (a .n) h (l .i + 1),
       rw z (filling-on m rs _ _ _ _ _ _ (l .inv .3) _ _ _ _ e b refl),
     )
+
+put-block-requires : tie.Need-put-block-requires Inv-loop μ-loop
+put-block-requires c κs =
+    let after-next-block = c .before .before .before .before in
+    let in-loop = after-next-block .before .before .before .before in
+    let l = in-loop .before .loop in
+    let s = in-loop .before .before .before .before in
+    let a = s .args in
+    let h : a .n ≤ length (a .t5) = omega (arith, s .good, s .pre .0) in
+    let d : l .i < a .n = in-loop .loop-test .taken in
+    let m = metricFound (a .cells .now) (a .rts) (a .found .now) in
+    let rs = take (a .n) (a .t5) in
+    let e = next-whole (a .t5) (a .n) h (l .i) (l .reported) (l .room) _ d refl
+    (sym (after-next-block .next-block .ensures) ∙ c .before .before .enum-told .given .1) in
+    (omega (arith, filling-room m rs _ _ _ _ _ _ (l .inv .3) _ _ e, l .inv .0, s .pre .1 .1), s .pre .0 .held (l .i) d)
 
 put-block-requires-2 : tie.Need-put-block-requires-2 Inv-loop μ-loop
 put-block-requires-2 c κs =

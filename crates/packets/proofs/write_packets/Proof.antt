@@ -23,6 +23,18 @@ Inv-loop out₀ limit cells sender rts requests found n from₀ end₀ out from 
 abbrev μ-loop : tie.MeasureT-loop
 μ-loop out₀ limit cells sender rts requests found n from₀ end₀ out from end = mostPackets (remaining (take n requests) from)
 
+-- where the loop ends, no request is left
+returns : tie.Need-returns Inv-loop μ-loop
+returns c =
+    let at-loop = c .before .before in
+    let l = at-loop .loop in
+    let s = at-loop .before .before .before in
+    let a = s .args in
+    let h : a .n ≤ length (a .requests) = omega (arith, s .good, s .pre .0) in
+    let past : a .n ≤ l .from .request = c .if1 .left in
+    writing-done (metricFound (a .cells .now) (a .rts) (a .found .now)) (take (a .n) (a .requests)) (a .sender) (a .rts) _ (l .end) _ _ _ (l .inv .2)
+    (plan-over (a .requests) (a .n) h (a .limit) (s .pre .0 .least) (l .from) past)
+
 -- the next packet has room
 room : (c : tie.Then1 Inv-loop μ-loop)
     → let at-loop = c .before .before in
@@ -99,16 +111,6 @@ loop-again c =
           writing-on (metricFound (a .cells .now) (a .rts) (a .found .now)) (take (a .n) (a .requests)) (a .sender)
           (a .rts) _ (l .end) _ _ _ (l .inv .2) _ _ _ _ e (omega (arith, room then1)) (p .octets) (p .content),
     )
-
-returns : tie.Need-returns Inv-loop μ-loop
-returns c =
-    let at-loop = c .before .before in
-    let l = at-loop .loop in
-    let s = at-loop .before .before .before in
-    let a = s .args in
-    let h : a .n ≤ length (a .requests) = omega (arith, s .good, s .pre .0) in
-    writing-done (metricFound (a .cells .now) (a .rts) (a .found .now)) (take (a .n) (a .requests)) (a .sender) (a .rts) _ (l .end) _ _ _ (l .inv .2)
-    (plan-over (a .requests) (a .n) h (a .limit) (s .pre .0 .least) (l .from) (c .if1 .left))
 
 pub write-packets-spec : {M : Type 1} → statement M
 write-packets-spec =
