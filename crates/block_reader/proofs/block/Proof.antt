@@ -1,4 +1,5 @@
 -- `block_reader::block` meets its contract. Assumes nothing.
+use mathlib.Core.Path.{refl}
 use Rattle.reader.proofs.Answers.{start-at, start-refused}
 use borrow.Author.Needs.{needs}
 use Rattle.block_reader.proofs.block.Statement.{statement}
@@ -12,7 +13,7 @@ returns c =
 returns-2 : tie.Need-returns-2
 returns-2 c =
     let start = c .before .before .before .read-header in
-    rw (start-refused _ _ _ (start .ensures) (c .before .first2 .given .1))
+    rw (start-refused _ _ _ (start .ensures) (c .before .first2 .given .1)) refl
 
 pub block-spec : {M : Type 1} → statement M
 block-spec =

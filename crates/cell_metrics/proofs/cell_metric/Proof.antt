@@ -1,5 +1,5 @@
 -- `cell_metrics::cell_metric` meets its contract. Assumes nothing.
-use mathlib.Core.Path.{_∙_}
+use mathlib.Core.Path.{refl, _∙_}
 use Rattle.cell_metrics.specs.Metrics.{cellMetric}
 use borrow.Author.Needs.{needs}
 use Rattle.cell_metrics.proofs.cell_metric.Statement.{statement}
@@ -7,7 +7,7 @@ use Rattle.cell_metrics.proofs.cell_metric.Tie as tie
 
 returns : tie.Need-returns
 unfolding cellMetric
-returns c = c .metric-of-word .ensures ∙ rw (c .before .before .cell-index .ensures)
+returns c = c .metric-of-word .ensures ∙ rw (c .before .before .cell-index .ensures) refl
 
 pub cell-metric-spec : {M : Type 1} → statement M
 cell-metric-spec =

@@ -10,7 +10,7 @@ returns c = rw (c .enum-told .given .1) refl
 returns-2 : tie.Need-returns-2
 returns-2 c =
     let cell = c .before .before .before .cell in
-    rw (cell .given .1, c .assembled .ensures, c .before .ato .ensures .0)
+    rw (cell .given .1, c .assembled .ensures, c .before .ato .ensures .0) refl
 
 pub encode-spec : {M : Type 1} → statement M
 encode-spec =

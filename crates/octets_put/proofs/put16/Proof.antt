@@ -1,4 +1,5 @@
 -- `octets_put::put16` meets its contract. Assumes nothing.
+use mathlib.Core.Path.{refl}
 use native.Mathlib.Numerals.{add-one}
 use native.Mathlib.Omega.{arith}
 use lib.ListN.{length-set}
@@ -10,7 +11,7 @@ slice-write-out-2 : tie.Need-slice-write-out-2
 slice-write-out-2 c = simp length-set (omega arith)
 
 returns : tie.Need-returns
-returns c = rw add-one
+returns c = rw add-one refl
 
 pub put16-spec : {M : Type 1} → statement M
 put16-spec =

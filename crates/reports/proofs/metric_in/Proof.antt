@@ -1,4 +1,5 @@
 -- `reports::metric_in` meets its contract. Assumes nothing.
+use mathlib.Core.Path.{refl}
 use native.Mathlib.Omega.{arith}
 use borrow.Author.Tests.{le-leb, lt-leb}
 use borrow.Author.Needs.{needs}
@@ -11,7 +12,7 @@ returns c = let args = c .before .before .before .args in simp (le-leb (args .b 
 returns-2 : tie.Need-returns-2
 returns-2 c =
     let if1 = c .before .before .before .before .if1 in
-    simp (lt-leb _ _ (if1 .left)) (rw (c .before .before .wrapping-add-u16 .ensures, c .decode .ensures, c .before .get16 .ensures))
+    simp (lt-leb _ _ (if1 .left)) (rw (c .before .before .wrapping-add-u16 .ensures, c .decode .ensures, c .before .get16 .ensures) refl)
 
 pub metric-in-spec : {M : Type 1} → statement M
 metric-in-spec =
