@@ -4,20 +4,18 @@ use mathlib.Core.Path.{_≡_, refl, sym, ap, _∙_}
 use mathlib.Core.List.{List, map}
 use native.Mathlib.Omega.{arith}
 use native.Mathlib.Numerals.{add-one}
-use native.Mathlib.Nat.{add-zero}
 use borrow.Author.Tests.{lt-ltb, le-ltb}
-use lib.ListN.{length, getD, take, drop, set}
-use lib.Seq.{sets, getD-take, getD-drop}
+use lib.ListN.{length, getD, set}
+use lib.Seq.{sets}
 use Rattle.lists.proofs.Cases.{split-le}
 use Rattle.octets.specs.Octets.{be16, octets16}
 use Rattle.octets.proofs.Sets.{sets-next}
+use Rattle.low_first.specs.LowFirst.{lowFirst}
+use Rattle.low_first.proofs.Parts.{digits}
 use Rattle.packet.specs.Packet.{encodeMetrics}
 use Rattle.reader.specs.Reading.{metricsAt}
 use Rattle.metric_rewriter.specs.Metrics.{rewriteMetric}
-use Rattle.metric_rewriter.specs.Steps.{lowFirst, rewriteLowFirst}
-
-digits : (x y : ℕ) → y < 256 → ((256 * x + y) / 256 ≡ x) × ((256 * x + y) % 256 ≡ y)
-digits x y h = (omega arith, omega arith)
+use Rattle.metric_rewriter.specs.Steps.{rewriteLowFirst}
 
 -- a metric of the octets a and b, rewritten with a low, has the octets of the rewritten metric, the other way round
 kept-octets : (a b : ℕ) → a < 256 → b < 256
@@ -28,17 +26,6 @@ kept-octets a b h l =
     split-le 128 a
     (λ g. rw (y .1) (simp (le-ltb a 128 g, le-ltb (256 * a + b) 32768 (omega arith)) (y .1 ∙ sym (x .0), y .0 ∙ sym (x .1))))
     (λ g. rw (y .1) (simp (lt-ltb a 128 g, lt-ltb (256 * a + b) 32768 (omega arith)) (refl, refl)))
-
--- a part that starts at i is read at its front
-pub low-first-part : (s : List ℕ) (i : ℕ) → i + 2 ≤ length s → lowFirst (take (length s - i) (drop i s)) 0 ≡ lowFirst s i
-low-first-part s i h =
-    rw (
-      getD-take (length s - i) (drop i s) 0 0 (omega arith),
-      getD-take (length s - i) (drop i s) 1 0 (omega arith),
-      getD-drop i s 0 0,
-      getD-drop i s 1 0,
-      add-zero,
-    )
 
 module _ (s : List ℕ) where
   -- the octets of n rewritten metrics, starting at i

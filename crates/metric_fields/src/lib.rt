@@ -1,0 +1,60 @@
+// The case of a metric as three numbers, without an enum: the case's own number, its mark and its offset. They are for
+// many metrics, whose cases no processor can predict: what is compiled of these functions has no branch, and a loop that
+// calls them becomes vector code.
+ghost use mathlib.Core.Path.{_≡_};
+ghost use Prim.Native.Nat.{_-_};
+ghost use mathlib.Core.Bool.{cond};
+ghost use lib.Dec.{ltb};
+ghost use Rattle.metric.specs.Metric.{largestOffset, receivedBit, caseNumber, decodeOf};
+ghost use Rattle.metric_fields.specs.Fields.{markOr, offsetOr};
+use metric::MARK_UNIT;
+use metric::OVER_RANGE;
+use metric::RECEIVED_BIT;
+
+// The codes without an offset are the ATOs above it.
+const LARGEST_OFFSET: u16 = 0x1FFD;
+
+// The bits of a metric; all 0 if its number was not received.
+fn received_bits(m: u16) -> u16
+    ensures value { λ r. ⌜ r ≡ cond (ltb m receivedBit) 0 m ⌝ }
+{
+    if m < RECEIVED_BIT {
+        return 0;
+    }
+    m
+}
+
+// How far an ATO is above the largest offset: 1 over range, 2 no time.
+fn above_offsets(ato: u16) -> u16
+    ensures value { λ r. ⌜ r ≡ ato - largestOffset ⌝ }
+{
+    if ato < OVER_RANGE {
+        return 0;
+    }
+    ato - LARGEST_OFFSET
+}
+
+// The number of a metric's case.
+pub fn case_number(m: u16) -> u8
+    ensures value { λ r. ⌜ r ≡ caseNumber (decodeOf m) ⌝ }
+{
+    (m / RECEIVED_BIT + above_offsets(received_bits(m) % MARK_UNIT)) as u8
+}
+
+// The mark of a metric; 0 where its case has none.
+pub fn mark_or_zero(m: u16) -> u8
+    ensures value { λ r. ⌜ r ≡ markOr (decodeOf m) 0 ⌝ }
+{
+    (received_bits(m) / MARK_UNIT % 4) as u8
+}
+
+// The offset of a metric; 0 where its case has none.
+pub fn offset_or_zero(m: u16) -> u16
+    ensures value { λ r. ⌜ r ≡ offsetOr (decodeOf m) 0 ⌝ }
+{
+    let ato = received_bits(m) % MARK_UNIT;
+    if ato < OVER_RANGE {
+        return ato;
+    }
+    0
+}
