@@ -17,33 +17,31 @@ pub enum BlockAnswer {
     Refused(Refusal),
 }
 
-// What the walk that starts at a cursor meets after k blocks.
-fn after_blocks(packet: &[u8], from: Cursor, k: usize) -> Step
+// Where the walk that starts at a cursor stands after k blocks.
+fn after_blocks(packet: &[u8], from: Cursor, k: usize) -> Start
     ensures value { λ r. ⌜ r ≡ afterBlocks k (now (packet .entry)) (from .at) ⌝ }
 {
     let mut cursor = from;
     let mut left = k;
-    loop {
+    while 0 < left {
         let here = walk::next(cursor, packet);
-        if left == 0 {
-            return here;
-        }
         match here {
             Step::Block(_, next) => {
                 cursor = next;
                 left -= 1;
             }
-            Step::End => return Step::End,
-            Step::Refused(e) => return Step::Refused(e),
+            Step::End => return Start::Refused(Refusal::NoBlock),
+            Step::Refused(e) => return Start::Refused(e),
         }
     }
+    Start::At(cursor)
 }
 
-// Block k of the walk that starts at a cursor. The blocks behind it are walked too: their refusals come first.
-fn block_from(packet: &[u8], from: Cursor, k: usize) -> BlockAnswer
-    ensures value { λ r. ⌜ r ≡ located (walkFrom (now (packet .entry)) (from .at)) k ⌝ }
+// The block at a cursor. The blocks behind it are walked too: their refusals come first.
+fn block_at(packet: &[u8], at: Cursor) -> BlockAnswer
+    ensures value { λ r. ⌜ r ≡ located (walkFrom (now (packet .entry)) (at .at)) 0 ⌝ }
 {
-    let here = after_blocks(packet, from, k);
+    let here = walk::next(at, packet);
     match here {
         Step::Block(b, next) => {
             let rest = reader::count_blocks_from(packet, next);
@@ -54,6 +52,17 @@ fn block_from(packet: &[u8], from: Cursor, k: usize) -> BlockAnswer
         }
         Step::End => BlockAnswer::Refused(Refusal::NoBlock),
         Step::Refused(e) => BlockAnswer::Refused(e),
+    }
+}
+
+// Block k of the walk that starts at a cursor.
+fn block_from(packet: &[u8], from: Cursor, k: usize) -> BlockAnswer
+    ensures value { λ r. ⌜ r ≡ located (walkFrom (now (packet .entry)) (from .at)) k ⌝ }
+{
+    let passed = after_blocks(packet, from, k);
+    match passed {
+        Start::At(cursor) => block_at(packet, cursor),
+        Start::Refused(e) => BlockAnswer::Refused(e),
     }
 }
 

@@ -42,7 +42,7 @@ module _ (m b : ℕ) (e : b ≡ cond (ltb m receivedBit) 0 m) where
       (λ h l. rw (own h, reads-over-range m h l))
       (λ h l. rw (own h, reads-no-time m h l))
 
-  pub offset-read : b % markUnit < overRange → b % markUnit ≡ offsetOr (decodeOf m) 0
+  pub offset-read : b % markUnit ≤ largestOffset → b % markUnit ≡ offsetOr (decodeOf m) 0
   offset-read l =
       by-case
       (λ h. rw (none h, reads-not-received m h))
@@ -50,7 +50,7 @@ module _ (m b : ℕ) (e : b ≡ cond (ltb m receivedBit) 0 m) where
       (λ h o. absurd (omega (arith, own h)))
       (λ h o. absurd (omega (arith, own h)))
 
-  pub offset-none : overRange ≤ b % markUnit → 0 ≡ offsetOr (decodeOf m) 0
+  pub offset-none : largestOffset < b % markUnit → 0 ≡ offsetOr (decodeOf m) 0
   offset-none l =
       by-case
       (λ h. rw (reads-not-received m h))

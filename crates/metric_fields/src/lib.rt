@@ -53,8 +53,8 @@ pub fn offset_or_zero(m: u16) -> u16
     ensures value { λ r. ⌜ r ≡ offsetOr (decodeOf m) 0 ⌝ }
 {
     let ato = received_bits(m) % MARK_UNIT;
-    if ato < OVER_RANGE {
-        return ato;
+    if LARGEST_OFFSET < ato {
+        return 0;
     }
-    0
+    ato
 }

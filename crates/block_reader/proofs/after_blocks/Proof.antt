@@ -16,28 +16,26 @@ abbrev μ-loop : tie.MeasureT-loop
 loop-holds : tie.Need-loop-holds Inv-loop μ-loop
 loop-holds c = refl
 
-returns : tie.Need-returns Inv-loop μ-loop
-returns c = after-none _ _ _ _ (c .before .next .ensures) (c .if1 .taken) ∙ c .before .before .loop .inv
-
 loop-again : tie.Need-loop-again Inv-loop μ-loop
 loop-again c =
-    let if1 = c .before .before .before .if1 in
-    let after-next = c .before .before .before .before in
-    let loop = after-next .before .loop in
-    after-block _ _ _ _ (after-next .next .ensures) (if1 .left) _ _ (c .before .here .given .1) ∙ loop .inv
+    let after-next = c .before .before .before in
+    let in-loop = after-next .before in
+    after-block _ _ _ _ (after-next .next .ensures) (in-loop .loop-test .taken) _ _ (c .before .here .given .1) ∙ in-loop .before .loop .inv
+
+returns : tie.Need-returns Inv-loop μ-loop
+returns c =
+    let after-next = c .before .before in
+    let in-loop = after-next .before in
+    after-end _ _ _ _ (after-next .next .ensures) (in-loop .loop-test .taken) (c .enum-told .given .1) ∙ in-loop .before .loop .inv
 
 returns-2 : tie.Need-returns-2 Inv-loop μ-loop
 returns-2 c =
-    let next = c .before .before .before .next in
-    let loop = c .before .before .before .before .loop in
-    after-end _ _ _ _ (next .ensures) (c .before .before .if1 .left) (c .enum-told .given .1) ∙ loop .inv
+    let after-next = c .before .before .before in
+    let in-loop = after-next .before in
+    after-refused _ _ _ _ (after-next .next .ensures) (in-loop .loop-test .taken) _ (c .before .here2 .given .1) ∙ in-loop .before .loop .inv
 
 returns-3 : tie.Need-returns-3 Inv-loop μ-loop
-returns-3 c =
-    let if1 = c .before .before .before .if1 in
-    let after-next = c .before .before .before .before in
-    let loop = after-next .before .loop in
-    after-refused _ _ _ _ (after-next .next .ensures) (if1 .left) _ (c .before .here2 .given .1) ∙ loop .inv
+returns-3 c = after-none _ _ _ (c .loop-test .left) ∙ c .before .loop .inv
 
 pub after-blocks-spec : {M : Type 1} → statement M
 after-blocks-spec =
@@ -46,11 +44,10 @@ after-blocks-spec =
     Inv-loop
     μ-loop
     loop-holds
-    (λ c κs. search needs)
-    returns
-    (λ c. search needs) (λ c. search needs) (λ c. search needs)
+    (λ c κs. search needs) (λ c. search needs) (λ c. search needs) (λ c. search needs)
     loop-again
     (λ c. search needs)
-    returns-2
+    returns
     (λ c. search needs)
+    returns-2
     returns-3)

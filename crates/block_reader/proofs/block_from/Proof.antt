@@ -1,37 +1,25 @@
 -- `block_reader::block_from` meets its contract. Assumes nothing.
-use Rattle.block_reader.proofs.Answers.{block-found, block-stopped, block-none, block-refused}
+use mathlib.Core.Path.{_∙_}
+use Rattle.block_reader.proofs.Answers.{passed-to, passed-refused}
 use borrow.Author.Needs.{needs}
 use Rattle.block_reader.proofs.block_from.Statement.{statement}
 use Rattle.block_reader.proofs.block_from.Tie as tie
 
 returns : tie.Need-returns
 returns c =
-    let after-here = c .before .before .before .before in
-    let after-blocks = after-here .before .before .after-blocks in
-    block-found _ _ _ _ (after-blocks .ensures) _ _ (after-here .here .given .1) _ _ (c .before .before .count-blocks-from .ensures) (c .enum-told .given .1)
+    let after-passed = c .before .before in
+    let after-blocks = after-passed .before .before .after-blocks in
+    c .block-at .ensures ∙ passed-to _ _ _ _ (after-blocks .ensures) _ (after-passed .passed .given .1)
 
 returns-2 : tie.Need-returns-2
 returns-2 c =
-    let after-count-from = c .before .before .before in
-    let here = after-count-from .before .before .here in
-    let after-blocks = after-count-from .before .before .before .before .after-blocks in
-    block-stopped _ _ _ _ (after-blocks .ensures) _ _ (here .given .1) _ _ (after-count-from .count-blocks-from .ensures) (c .before .rest .given .1)
-
-returns-3 : tie.Need-returns-3
-returns-3 c = block-none _ _ _ _ (c .before .before .after-blocks .ensures) (c .enum-told2 .given .1)
-
-returns-4 : tie.Need-returns-4
-returns-4 c =
     let after-blocks = c .before .before .before .after-blocks in
-    block-refused _ _ _ _ (after-blocks .ensures) _ (c .before .here2 .given .1)
+    passed-refused _ _ _ _ (after-blocks .ensures) _ (c .before .passed2 .given .1)
 
 pub block-from-spec : {M : Type 1} → statement M
 block-from-spec =
     tie.close
     (tie.spec
-    (λ c κs. search needs) (λ c. search needs) (λ c κs. search needs) (λ c. search needs) (λ c. search needs)
-    (λ c. search needs) (λ c. search needs)
+    (λ c κs. search needs) (λ c. search needs) (λ c κs. search needs) (λ c. search needs)
     returns
-    returns-2
-    returns-3
-    returns-4)
+    returns-2)

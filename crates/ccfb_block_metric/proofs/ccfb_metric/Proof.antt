@@ -1,13 +1,13 @@
--- `ccfb_reports::ccfb_metric` meets its contract. Assumes nothing.
+-- `ccfb_block_metric::ccfb_metric` meets its contract. Assumes nothing.
 use mathlib.Core.Path.{ap, _∙_}
 use mathlib.Core.List.{_∷_}
 use Rattle.reports.specs.declared.MetricAnswer.{MetricAnswer}
 use Rattle.ccfb_calls.specs.Called.{Called, called}
 use Rattle.ccfb_calls.proofs.Told.{told}
-use Rattle.ccfb_reports.specs.Reports.{metricCalled}
+use Rattle.ccfb_block_metric.specs.Metric.{metricCalled}
 use borrow.Author.Needs.{needs}
-use Rattle.ccfb_reports.proofs.ccfb_metric.Statement.{statement}
-use Rattle.ccfb_reports.proofs.ccfb_metric.Tie as tie
+use Rattle.ccfb_block_metric.proofs.ccfb_metric.Statement.{statement}
+use Rattle.ccfb_block_metric.proofs.ccfb_metric.Tie as tie
 
 returns : tie.Need-returns
 returns c =
