@@ -59,10 +59,10 @@ module _ (part : List ℕ) (a : Arrays) where
   refused-given none =
       split-le (metricCount part) (length (a .cases))
       (λ c. split-le (metricCount part) (length (a .marks))
-        (λ m. split-le (metricCount part) (length (a .offsets))
-          (λ o. absurd (none (record { cases = c; marks = m; offsets = o })))
-          (λ o. sym (short-offsets part a c m o)))
-        (λ m. sym (short-marks part a c m)))
+      (λ m. split-le (metricCount part) (length (a .offsets))
+      (λ o. absurd (none (record { cases = c; marks = m; offsets = o })))
+      (λ o. sym (short-offsets part a c m o)))
+      (λ m. sym (short-marks part a c m)))
       (λ c. sym (short-cases part a c))
 
   -- entry j of accepted arrays is what is asked of the part for metric j
@@ -72,12 +72,12 @@ module _ (part : List ℕ) (a : Arrays) where
       split-le n j
       (λ l. never (let z = rw (le-leb n j l) at e in cc))
       (λ l.
-        let z : decodeOf (be16 part (2 * j)) ≡ m = (let y = rw (lt-leb n j l) at e in cc) in
-        rw (long-enough part a (h .cases) (h .marks) (h .offsets), ← z) (record {
-          number = entry-front caseField part (a .cases) n j l (h .cases);
-          mark = entry-front markField part (a .marks) n j l (h .marks);
-          offset = entry-front offsetField part (a .offsets) n j l (h .offsets);
-        }))
+      let z : decodeOf (be16 part (2 * j)) ≡ m = (let y = rw (lt-leb n j l) at e in cc) in
+      rw (long-enough part a (h .cases) (h .marks) (h .offsets), ← z) (record {
+        number = entry-front caseField part (a .cases) n j l (h .cases);
+        mark = entry-front markField part (a .marks) n j l (h .marks);
+        offset = entry-front offsetField part (a .offsets) n j l (h .offsets);
+      }))
 
   -- the entries behind the metrics stay
   pub decoded-rest : Holds a (metricCount part) → (j : ℕ) → metricCount part ≤ j → SameEntry (decodedAll part a .arrays) a j

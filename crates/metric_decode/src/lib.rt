@@ -3,7 +3,6 @@ ghost use mathlib.Core.Path.{_≡_};
 ghost use Rattle.metric.specs.Metric.{decodeOf};
 use metric::MARK_UNIT;
 use metric::Metric;
-use metric::NO_TIME;
 use metric::OVER_RANGE;
 use metric::RECEIVED_BIT;
 
@@ -16,14 +15,14 @@ pub fn decode(m: u16) -> Metric
     }
     let mark = (m / MARK_UNIT % 4) as u8;
     let offset = m % MARK_UNIT;
-    if offset == NO_TIME {
-        return Metric::NoTime { mark: mark };
+    if offset < OVER_RANGE {
+        return Metric::Received {
+            mark: mark,
+            offset: offset,
+        };
     }
     if offset == OVER_RANGE {
         return Metric::OverRange { mark: mark };
     }
-    Metric::Received {
-        mark: mark,
-        offset: offset,
-    }
+    Metric::NoTime { mark: mark }
 }
