@@ -145,6 +145,21 @@ uint8_t ccfb_metric_at(const uint8_t *part, size_t len, size_t j, uint8_t *kind,
                        uint16_t *offset);
 
 /*
+ * Decodes all metrics of such a part in one pass: kinds[j], marks[j] and offsets[j] are the kind,
+ * the ECN mark and the offset in 1/1024 s of metric j, which is that of the block's number
+ * begin + j. A kind without a mark or an offset has 0 there.
+ *
+ *   part                    2 octets for each metric: len / 2 metrics, an odd last octet is none
+ *   kinds, marks, offsets   room for len / 2 entries or more; the entries after them stay
+ *
+ * Returns 0, or this; the arrays are then unchanged:
+ *   CCFB_OUTPUT_TOO_SHORT   one of the three has fewer than len / 2 entries
+ */
+uint8_t ccfb_decode_metrics(const uint8_t *part, size_t len, uint8_t *kinds, size_t kinds_len,
+                            uint8_t *marks, size_t marks_len, uint16_t *offsets,
+                            size_t offsets_len);
+
+/*
  * Writes the packet to the start of out with each not-received metric set to 0x0000 and the rest
  * unchanged. *written is how many octets; the rest of out stays as it was.
  * Refusals: 21 to 28, then 10.

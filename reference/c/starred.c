@@ -69,6 +69,24 @@ int main(void)
         check(kind == decodes[i].kind && mark == decodes[i].mark && offset == decodes[i].offset,
               "metric", decodes[i].metric);
     }
+    /* The same metrics in one part: what a kind does not have is 0. */
+    enum { DECODES = sizeof decodes / sizeof decodes[0] };
+    uint8_t part[2 * DECODES], kinds[DECODES], marks[DECODES];
+    uint16_t offsets[DECODES];
+    for (size_t i = 0; i < DECODES; i++) {
+        part[2 * i] = (uint8_t)(decodes[i].metric >> 8);
+        part[2 * i + 1] = (uint8_t)decodes[i].metric;
+    }
+    check(ccfb_decode_metrics(part, sizeof part, kinds, DECODES, marks, DECODES, offsets,
+                              DECODES - 1) == CCFB_OUTPUT_TOO_SHORT, "entries", DECODES - 1);
+    check(ccfb_decode_metrics(part, sizeof part, kinds, DECODES, marks, DECODES, offsets,
+                              DECODES) == 0, "entries", DECODES);
+    for (size_t i = 0; i < DECODES; i++) {
+        uint8_t mark = decodes[i].mark == MARK_BEFORE ? 0 : decodes[i].mark;
+        uint16_t offset = decodes[i].offset == OFFSET_BEFORE ? 0 : decodes[i].offset;
+        check(kinds[i] == decodes[i].kind && marks[i] == mark && offsets[i] == offset,
+              "metric of the part", decodes[i].metric);
+    }
     if (failed != 0) {
         return 1;
     }

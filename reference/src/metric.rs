@@ -119,6 +119,31 @@ pub fn decode(metric: u16) -> Metric {
     }
 }
 
+/// A metric as three numbers: 0 not received, 1 received with an offset, 2 over range, 3 no time;
+/// the mark; the offset. Where there is no mark or no offset, 0.
+pub fn numbers(metric: u16) -> (u8, u8, u16) {
+    match decode(metric) {
+        Metric::NotReceived => (0, 0, 0),
+        Metric::Received { mark, offset } => (1, mark, offset),
+        Metric::OverRange { mark } => (2, mark, 0),
+        Metric::NoTime { mark } => (3, mark, 0),
+    }
+}
+
+/// The numbers of each metric of a part, two octets each; `rooms` are how many entries the three
+/// arrays have that take them.
+pub fn decode_part(part: &[u8], rooms: [usize; 3]) -> Result<Vec<(u8, u8, u16)>, Refusal> {
+    let mut metrics = Vec::new();
+    let mut octets = part.iter();
+    while let (Some(high), Some(low)) = (octets.next(), octets.next()) {
+        metrics.push(numbers(u16::from(*high) * 256 + u16::from(*low)));
+    }
+    if rooms.iter().any(|room| *room < metrics.len()) {
+        return Err(Refusal::OutputTooShort);
+    }
+    Ok(metrics)
+}
+
 #[cfg(test)]
 mod tests {
     use super::*;
@@ -155,6 +180,19 @@ mod tests {
         assert_eq!(unknown(2), Ok(0xDFFF));
         assert_eq!(unknown(3), Ok(0xFFFF));
         assert_eq!(unknown(4), Err(Refusal::BadMark));
+    }
+
+    #[test]
+    fn a_part_of_five_octets() {
+        let part = [0x7F, 0xFF, 0xBF, 0xFD, 0xFF];
+        let metrics = vec![(0, 0, 0), (1, 1, 8189)];
+        assert_eq!(decode_part(&part, [2, 2, 2]), Ok(metrics));
+        for rooms in [[1, 2, 2], [2, 1, 2], [2, 2, 1]] {
+            assert_eq!(decode_part(&part, rooms), Err(Refusal::OutputTooShort));
+        }
+        assert_eq!(decode_part(&part[..1], [0, 0, 0]), Ok(vec![]));
+        assert_eq!(numbers(0xFFFE), (2, 3, 0));
+        assert_eq!(numbers(0xDFFF), (3, 2, 0));
     }
 
     #[test]

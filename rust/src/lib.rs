@@ -53,7 +53,7 @@ mod refusal;
 mod store;
 mod write;
 
-pub use metric::{decode_metric, encode_metric, Mark, Metric, Time};
+pub use metric::{decode_metric, encode_metric, kind, Mark, Metric, Time};
 pub use packet::{rewrite, Block, Blocks, Metrics, Packet};
 pub use refusal::Refusal;
 pub use store::{Store, Stream};

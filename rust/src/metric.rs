@@ -100,6 +100,19 @@ impl From<Time> for Option<u32> {
     }
 }
 
+/// The kinds of metric as numbers, as [`Block::decode_metrics`](crate::Block::decode_metrics)
+/// writes them.
+pub mod kind {
+    /// [`Metric::NotReceived`](crate::Metric::NotReceived).
+    pub const NOT_RECEIVED: u8 = 0;
+    /// [`Metric::Received`](crate::Metric::Received): the only kind with an offset.
+    pub const RECEIVED: u8 = 1;
+    /// [`Metric::OverRange`](crate::Metric::OverRange).
+    pub const OVER_RANGE: u8 = 2;
+    /// [`Metric::NoTime`](crate::Metric::NoTime).
+    pub const NO_TIME: u8 = 3;
+}
+
 /// What a metric says of one sequence number. Only one of the four kinds has an offset, so "over
 /// range" and "no time" cannot be taken for a delay.
 #[derive(Clone, Copy, Debug, PartialEq, Eq, Hash)]

@@ -200,6 +200,43 @@ impl<'a> Block<'a> {
         raw::metric_at(self.part, j)
     }
 
+    /// All metrics at once, the quickest way to read a block: entry `j` is of the number
+    /// `begin + j`. `kinds` get the numbers of [`kind`](crate::kind), `marks` those of
+    /// [`Mark::number`](crate::Mark::number), and `offsets` count 1/1024 s; a kind without a mark or
+    /// an offset has 0 there. Returns how many entries were written; those after them stay.
+    ///
+    /// # Errors
+    ///
+    /// [`Refusal::OutputTooShort`] if a slice has fewer entries than the block has numbers; all
+    /// three then stay as they were.
+    ///
+    /// ```
+    /// use ccfb::{kind, Packet, Refusal};
+    ///
+    /// let packet = Packet::read(&[
+    ///     0x8b, 0xcd, 0, 6, 0, 0, 0, 0xf1, 0, 0, 0x0a, 1, 0, 9, 0, 3, // header to num_reports
+    ///     0xc2, 0, 0, 0, 0xff, 0xfe, 0, 0, 0, 5, 0, 0, // three metrics, filler, RTS
+    /// ])?;
+    /// let block = packet.block(0)?;
+    /// let (mut kinds, mut marks, mut offsets) = ([0; 3], [0; 3], [0; 3]);
+    /// assert_eq!(block.decode_metrics(&mut kinds, &mut marks, &mut offsets), Ok(3));
+    /// assert_eq!(kinds, [kind::RECEIVED, kind::NOT_RECEIVED, kind::OVER_RANGE]);
+    /// assert_eq!((marks, offsets), ([2, 0, 3], [512, 0, 0]));
+    ///
+    /// let short = block.decode_metrics(&mut kinds, &mut marks[..2], &mut offsets);
+    /// assert_eq!(short, Err(Refusal::OutputTooShort));
+    /// # Ok::<(), Refusal>(())
+    /// ```
+    pub fn decode_metrics(
+        &self,
+        kinds: &mut [u8],
+        marks: &mut [u8],
+        offsets: &mut [u16],
+    ) -> Result<usize, Refusal> {
+        raw::decode_metrics(self.part, kinds, marks, offsets)?;
+        Ok(self.count.into())
+    }
+
     /// Each number with its metric.
     pub fn metrics(&self) -> Metrics<'a> {
         Metrics { block: *self, next: 0 }

@@ -5,7 +5,7 @@
 
 #![allow(unsafe_code)]
 
-use crate::{Block, Mark, Metric, Refusal, Report, Request, Stream, Time};
+use crate::{kind, Block, Mark, Metric, Refusal, Report, Request, Stream, Time};
 
 // As in include/ccfb.h; a call writes its outputs through references.
 #[rustfmt::skip]
@@ -52,15 +52,14 @@ extern "C" {
     fn ccfb_metric_at(
         part: *const u8, len: usize, j: usize, kind: &mut u8, mark: &mut u8, offset: &mut u16,
     ) -> u8;
+    fn ccfb_decode_metrics(
+        part: *const u8, len: usize, kinds: *mut u8, kinds_len: usize,
+        marks: *mut u8, marks_len: usize, offsets: *mut u16, offsets_len: usize,
+    ) -> u8;
     fn ccfb_rewrite(
         packet: *const u8, len: usize, out: *mut u8, out_len: usize, written: &mut usize,
     ) -> u8;
 }
-
-/// The kinds of metric, as in include/ccfb.h; any other is CCFB_NO_TIME.
-const NOT_RECEIVED: u8 = 0;
-const RECEIVED: u8 = 1;
-const OVER_RANGE: u8 = 2;
 
 fn answer<T>(refused: u8, value: T) -> Result<T, Refusal> {
     match refused {
@@ -80,9 +79,9 @@ fn flagged(time: Time) -> (bool, u32) {
 fn metric_of(kind: u8, mark: u8, offset: u16) -> Metric {
     let mark = Mark::of_bits(mark);
     match kind {
-        NOT_RECEIVED => Metric::NotReceived,
-        RECEIVED => Metric::Received { mark, offset },
-        OVER_RANGE => Metric::OverRange { mark },
+        kind::NOT_RECEIVED => Metric::NotReceived,
+        kind::RECEIVED => Metric::Received { mark, offset },
+        kind::OVER_RANGE => Metric::OverRange { mark },
         _ => Metric::NoTime { mark },
     }
 }
@@ -253,6 +252,29 @@ pub fn metric_at(part: &[u8], j: usize) -> Result<Metric, Refusal> {
     let refused =
         unsafe { ccfb_metric_at(part.as_ptr(), part.len(), j, &mut kind, &mut mark, &mut offset) };
     answer(refused, metric_of(kind, mark, offset))
+}
+
+/// All metrics of a part that holds the metrics of a block, each into its entry of the slices.
+pub fn decode_metrics(
+    part: &[u8],
+    kinds: &mut [u8],
+    marks: &mut [u8],
+    offsets: &mut [u16],
+) -> Result<(), Refusal> {
+    // SAFETY: each pointer is passed with the length of its slice.
+    let refused = unsafe {
+        ccfb_decode_metrics(
+            part.as_ptr(),
+            part.len(),
+            kinds.as_mut_ptr(),
+            kinds.len(),
+            marks.as_mut_ptr(),
+            marks.len(),
+            offsets.as_mut_ptr(),
+            offsets.len(),
+        )
+    };
+    answer(refused, ())
 }
 
 /// How many octets were written.

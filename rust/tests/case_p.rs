@@ -1,6 +1,6 @@
 //! Case P: two arrivals, their feedback, and the feedback read.
 
-use ccfb::{rewrite, Mark, Metric, Packet, Refusal, Report, Store, Time};
+use ccfb::{kind, rewrite, Mark, Metric, Packet, Refusal, Report, Store, Time};
 
 const PACKET: [u8; 28] = *b"\x8b\xcd\x00\x06\x00\x00\x00\xf1\x00\x00\x0a\x01\xff\xfd\x00\x04\
     \x00\x00\xc2\x00\x00\x00\xe0\x00\x00\x05\x00\x00";
@@ -38,6 +38,18 @@ fn read() -> Result<(), Refusal> {
         assert_eq!(packet.metric(0, j), Ok((number, metric)));
         assert_eq!(block.metric(j), Ok(metric));
     }
+    Ok(())
+}
+
+#[test]
+fn decoded() -> Result<(), Refusal> {
+    let packet = Packet::read(&PACKET)?;
+    let (mut kinds, mut marks, mut offsets) = ([9; 5], [9; 5], [9; 5]);
+    let entries = packet.block(0)?.decode_metrics(&mut kinds, &mut marks, &mut offsets)?;
+    assert_eq!(entries, 4);
+    assert_eq!(kinds, [kind::NOT_RECEIVED, kind::RECEIVED, kind::NOT_RECEIVED, kind::RECEIVED, 9]);
+    assert_eq!(marks, [0, 2, 0, 3, 9]);
+    assert_eq!(offsets, [0, 512, 0, 0, 9]);
     Ok(())
 }
 

@@ -1,6 +1,6 @@
-//! The C header has the refusals under the same names and numbers.
+//! The C header has the refusals and the kinds of metric under the same names and numbers.
 
-use ccfb::Refusal;
+use ccfb::{kind, Refusal};
 
 /// The refusals of arrival files, which no call of the library gives.
 const OF_THE_PROGRAM: std::ops::RangeInclusive<u8> = 11..=14;
@@ -28,4 +28,18 @@ fn names_and_numbers() {
     let (_, refusals) = header.split_once("/* Refusals. */\n").expect("the list of refusals");
     let (refusals, _) = refusals.split_once("\n\n").expect("its end");
     assert_eq!(refusals.lines().collect::<Vec<_>>(), defined);
+}
+
+#[test]
+fn kinds() {
+    let header = include_str!("../../include/ccfb.h");
+    let (_, kinds) = header.split_once("/* The kinds of metric.").expect("the kinds of metric");
+    let (kinds, _) = kinds.split_once("\n\n").expect("their end");
+    let defined = [
+        format!("#define CCFB_NOT_RECEIVED {}", kind::NOT_RECEIVED),
+        format!("#define CCFB_RECEIVED {}", kind::RECEIVED),
+        format!("#define CCFB_OVER_RANGE {}", kind::OVER_RANGE),
+        format!("#define CCFB_NO_TIME {}", kind::NO_TIME),
+    ];
+    assert_eq!(kinds.lines().skip(1).collect::<Vec<_>>(), defined);
 }

@@ -91,3 +91,17 @@ fn by_the_questions() {
     assert_eq!(packet.metric(0, 4), Err(Refusal::NoNumber));
     assert_eq!(packet.block(0).and_then(|block| block.metric(4)), Err(Refusal::NoNumber));
 }
+
+#[test]
+fn by_the_decoding_of_a_block() {
+    let block = Packet::read(&PACKET).and_then(|packet| packet.block(0)).expect("a block");
+    for short in 0..3 {
+        let rooms = [0, 1, 2].map(|slice| if slice == short { 3 } else { 5 });
+        let (mut kinds, mut marks) = (vec![0xee; rooms[0]], vec![0xee; rooms[1]]);
+        let mut offsets = vec![0xeeee; rooms[2]];
+        let decoded = block.decode_metrics(&mut kinds, &mut marks, &mut offsets);
+        assert_eq!(decoded, Err(Refusal::OutputTooShort));
+        assert!(kinds.iter().chain(&marks).all(|entry| *entry == 0xee));
+        assert!(offsets.iter().all(|offset| *offset == 0xeeee));
+    }
+}

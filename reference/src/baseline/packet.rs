@@ -1,12 +1,21 @@
 //! Reader and rewriter calls.
 
-use super::metric::decoded;
+use super::metric::{chosen, decoded};
 use crate::calls::packet::PacketCalls;
 use crate::refusal::Refusal;
 use std::slice;
 
-pub const BASELINE: PacketCalls =
-    PacketCalls { read, block, block_metrics, metric, first_block, next_block, metric_at, rewrite };
+pub const BASELINE: PacketCalls = PacketCalls {
+    read,
+    block,
+    block_metrics,
+    metric,
+    first_block,
+    next_block,
+    metric_at,
+    decode_metrics,
+    rewrite,
+};
 
 /// The first octet has the version in two bits, the padding flag in one and FMT in five; the
 /// second is the type.
@@ -266,6 +275,32 @@ unsafe extern "C" fn metric_at(
     }
     let part = slice::from_raw_parts(part, len);
     *kind = decoded(be16(part, 2 * j), mark, offset);
+    0
+}
+
+#[inline(never)]
+#[allow(clippy::too_many_arguments)]
+unsafe extern "C" fn decode_metrics(
+    part: *const u8,
+    len: usize,
+    kinds: *mut u8,
+    kinds_len: usize,
+    marks: *mut u8,
+    marks_len: usize,
+    offsets: *mut u16,
+    offsets_len: usize,
+) -> u8 {
+    let n = len / 2;
+    if kinds_len < n || marks_len < n || offsets_len < n {
+        return Refusal::OutputTooShort.number();
+    }
+    let metrics = slice::from_raw_parts(part, 2 * n).chunks_exact(2);
+    let kinds = slice::from_raw_parts_mut(kinds, n);
+    let marks = slice::from_raw_parts_mut(marks, n);
+    let offsets = slice::from_raw_parts_mut(offsets, n);
+    for (((metric, kind), mark), offset) in metrics.zip(kinds).zip(marks).zip(offsets) {
+        (*kind, *mark, *offset) = chosen(u16::from_be_bytes([metric[0], metric[1]]));
+    }
     0
 }
 

@@ -16,11 +16,19 @@ const TIMES: usize = 100;
 /// How many blocks, and how many metrics in each.
 const SHAPES: [(u32, u16); 3] = [(1, 590), (11, 50), (16, 36)];
 
+/// What the calls write to.
+struct Outputs {
+    packet: Vec<u8>,
+    kinds: Vec<u8>,
+    marks: Vec<u8>,
+    offsets: Vec<u16>,
+}
+
 pub fn rows() -> Vec<Row> {
     SHAPES.into_iter().flat_map(shape_rows).collect()
 }
 
-fn shape_rows((blocks, count): (u32, u16)) -> [Row; 3] {
+fn shape_rows((blocks, count): (u32, u16)) -> [Row; 4] {
     let mut rng = Rng::of_case(USUAL_SEED, u64::from(blocks));
     let steps = TIMES * blocks as usize * usize::from(count);
     let shape = format!("{blocks} of {count}");
@@ -33,8 +41,13 @@ fn shape_rows((blocks, count): (u32, u16)) -> [Row; 3] {
         .collect();
     let packet = Packet { sender: 1, rts: 2, blocks }.octets();
     let calls = (PacketCalls::product(), BASELINE);
-    let fresh = |_| vec![0; packet.len()];
-    let timed = |name: &str, work: fn(PacketCalls, &[u8], &mut [u8]) -> u64| {
+    let fresh = |_| Outputs {
+        packet: vec![0; packet.len()],
+        kinds: vec![0; count.into()],
+        marks: vec![0; count.into()],
+        offsets: vec![0; count.into()],
+    };
+    let timed = |name: &str, work: fn(PacketCalls, &[u8], &mut Outputs) -> u64| {
         row(&format!("{name} {shape}"), calls, steps, fresh, |calls, out| {
             for _ in 0..TIMES {
                 black_box(work(calls, &packet, out));
@@ -43,13 +56,14 @@ fn shape_rows((blocks, count): (u32, u16)) -> [Row; 3] {
     };
     [
         timed("read in one pass,", in_one_pass),
+        timed("decode in one pass,", decode_in_one_pass),
         timed("read by ccfb_metric,", by_metric),
         timed("rewrite", rewrite),
     ]
 }
 
 /// Each block by the cursor, each metric from the part that the cursor gives.
-fn in_one_pass(calls: PacketCalls, packet: &[u8], _: &mut [u8]) -> u64 {
+fn in_one_pass(calls: PacketCalls, packet: &[u8], _: &mut Outputs) -> u64 {
     let (octets, len) = (packet.as_ptr(), packet.len());
     let mut at = 0;
     let mut sum = 0;
@@ -73,8 +87,33 @@ fn in_one_pass(calls: PacketCalls, packet: &[u8], _: &mut [u8]) -> u64 {
     }
 }
 
+/// Each block by the cursor, and all metrics of its part by one call.
+fn decode_in_one_pass(calls: PacketCalls, packet: &[u8], out: &mut Outputs) -> u64 {
+    let (octets, len) = (packet.as_ptr(), packet.len());
+    let Outputs { kinds, marks, offsets, .. } = out;
+    let (kinds_len, marks_len, offsets_len) = (kinds.len(), marks.len(), offsets.len());
+    let mut at = 0;
+    let mut blocks = 0;
+    // SAFETY: as above.
+    unsafe {
+        (calls.first_block)(octets, len, &mut at);
+        loop {
+            let (mut ssrc, mut begin, mut count, mut metrics_at) = (0, 0, 0, 0);
+            let (s, b, c) = (&mut ssrc, &mut begin, &mut count);
+            if (calls.next_block)(octets, len, &mut at, s, b, c, &mut metrics_at) != 0 {
+                return blocks;
+            }
+            let part = &packet[metrics_at..metrics_at + 2 * usize::from(count)];
+            let (p, n) = (part.as_ptr(), part.len());
+            let (k, m, o) = (kinds.as_mut_ptr(), marks.as_mut_ptr(), offsets.as_mut_ptr());
+            (calls.decode_metrics)(p, n, k, kinds_len, m, marks_len, o, offsets_len);
+            blocks += 1;
+        }
+    }
+}
+
 /// Each metric by a call of its own.
-fn by_metric(calls: PacketCalls, packet: &[u8], _: &mut [u8]) -> u64 {
+fn by_metric(calls: PacketCalls, packet: &[u8], _: &mut Outputs) -> u64 {
     let (octets, len) = (packet.as_ptr(), packet.len());
     let (mut k, mut j) = (0, 0);
     let mut sum = 0;
@@ -94,9 +133,9 @@ fn by_metric(calls: PacketCalls, packet: &[u8], _: &mut [u8]) -> u64 {
     }
 }
 
-fn rewrite(calls: PacketCalls, packet: &[u8], out: &mut [u8]) -> u64 {
+fn rewrite(calls: PacketCalls, packet: &[u8], out: &mut Outputs) -> u64 {
     let mut written = 0;
-    let (output, room) = (out.as_mut_ptr(), out.len());
+    let (output, room) = (out.packet.as_mut_ptr(), out.packet.len());
     // SAFETY: each slice is passed with its length.
     unsafe { (calls.rewrite)(packet.as_ptr(), packet.len(), output, room, &mut written) };
     written as u64

@@ -17,7 +17,18 @@ c_functions! { PacketCalls, "packet":
         *const u8, usize, *mut usize, *mut u32, *mut u16, *mut u16, *mut usize
     );
     metric_at = ccfb_metric_at(*const u8, usize, usize, *mut u8, *mut u8, *mut u16);
+    decode_metrics = ccfb_decode_metrics(
+        *const u8, usize, *mut u8, usize, *mut u8, usize, *mut u16, usize
+    );
     rewrite = ccfb_rewrite(*const u8, usize, *mut u8, usize, *mut usize);
+}
+
+/// The three arrays of `decode_metrics`.
+#[derive(Clone, Debug, PartialEq)]
+pub struct Arrays {
+    pub kinds: Vec<u8>,
+    pub marks: Vec<u8>,
+    pub offsets: Vec<u16>,
 }
 
 // The calls below are safe: each pointer is passed with the length of its slice, or is to a local
@@ -96,6 +107,24 @@ impl PacketCalls {
         };
         let (number, kind) = answer(refused, (number, kind), before)?;
         Ok((number, metric_of(kind, mark, offset)?))
+    }
+
+    /// All metrics of a part into the arrays.
+    pub fn decode_metrics(&self, part: &[u8], arrays: &mut Arrays) -> Result<(), u8> {
+        let Arrays { kinds, marks, offsets } = arrays;
+        let refused = unsafe {
+            (self.decode_metrics)(
+                part.as_ptr(),
+                part.len(),
+                kinds.as_mut_ptr(),
+                kinds.len(),
+                marks.as_mut_ptr(),
+                marks.len(),
+                offsets.as_mut_ptr(),
+                offsets.len(),
+            )
+        };
+        answer(refused, (), ())
     }
 
     /// Writes to `out`; returns how many octets.

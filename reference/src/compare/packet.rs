@@ -2,8 +2,8 @@
 
 use super::packets::{packet_of, put_fault, set_length, small_counts};
 use super::{numbered, output, unwritten, Hex, Mismatch, Tally};
-use crate::calls::packet::PacketCalls;
-use crate::metric::decode;
+use crate::calls::packet::{Arrays, PacketCalls};
+use crate::metric::{decode, decode_part};
 use crate::packet::{
     parse, rewrite, walk, Packet, BLOCK_HEADER_OCTETS, EMPTY_PACKET_OCTETS, FIRST_OCTETS,
     HEADER_OCTETS, MOST_REPORTS,
@@ -35,6 +35,12 @@ pub fn run(calls: &PacketCalls, tally: &mut Tally) -> Result<(), Mismatch> {
         tally.case += 1;
         let mut rng = Rng::of_case(tally.seed, tally.case);
         random_octets(calls, tally, &mut rng)?;
+    }
+    every_metric(calls, tally)?;
+    for _ in 0..rounds(20_000) {
+        tally.case += 1;
+        let mut rng = Rng::of_case(tally.seed, tally.case);
+        random_part(calls, tally, &mut rng)?;
     }
     Ok(())
 }
@@ -129,6 +135,7 @@ fn one_pass(calls: &PacketCalls, tally: &mut Tally, octets: &[u8]) -> Result<(),
             let reference = metric.ok_or(Refusal::NoNumber);
             tally.same(&("metric", j, Hex(part)), calls.metric_at(part, j), numbered(reference))?;
         }
+        decoding(calls, tally, part, [block.metrics.len(); 3])?;
         metrics_at += part.len().next_multiple_of(4) + BLOCK_HEADER_OCTETS;
     }
     let end = fault.unwrap_or(Refusal::NoBlock).number();
@@ -153,6 +160,55 @@ fn rewriting(
         tally.same(&("rewritten", room, Hex(octets)), Hex(&out), Hex(&expected))?;
     }
     Ok(())
+}
+
+/// Every metric, in one part.
+fn every_metric(calls: &PacketCalls, tally: &mut Tally) -> Result<(), Mismatch> {
+    let part: Vec<u8> = (0..=u16::MAX).flat_map(u16::to_be_bytes).collect();
+    decoding(calls, tally, &part, [65_536; 3])
+}
+
+/// A part of random octets, odd lengths too, into arrays of about the right lengths.
+fn random_part(calls: &PacketCalls, tally: &mut Tally, rng: &mut Rng) -> Result<(), Mismatch> {
+    let most = if rng.one_in(20) { 2_000 } else { 80 };
+    let length = rng.below(most) as usize;
+    let mut part: Vec<u8> = (0..length).map(|_| rng.below(256) as u8).collect();
+    for at in (0..length.saturating_sub(1)).step_by(2) {
+        if rng.one_in(4) {
+            let code = 0x1FFD + rng.below(3) as u16;
+            let bits = code | (rng.below(8) as u16) << 13;
+            part[at..at + 2].copy_from_slice(&bits.to_be_bytes());
+        }
+    }
+    let n = length / 2;
+    decoding(calls, tally, &part, [n; 3])?;
+    let rooms = [n.saturating_sub(1), n, n + 1, n + 1 + rng.below(40) as usize];
+    for _ in 0..4 {
+        decoding(calls, tally, &part, [rng.pick(&rooms), rng.pick(&rooms), rng.pick(&rooms)])?;
+    }
+    Ok(())
+}
+
+/// Decodes a part into arrays of these lengths; entries behind the metrics stay.
+fn decoding(
+    calls: &PacketCalls,
+    tally: &mut Tally,
+    part: &[u8],
+    rooms: [usize; 3],
+) -> Result<(), Mismatch> {
+    let mut arrays = Arrays {
+        kinds: unwritten(rooms[0]),
+        marks: unwritten(rooms[1]),
+        offsets: unwritten(rooms[2]).into_iter().map(u16::from).collect(),
+    };
+    let mut expected = arrays.clone();
+    let reference = numbered(decode_part(part, rooms));
+    for (j, metric) in reference.iter().flatten().enumerate() {
+        (expected.kinds[j], expected.marks[j], expected.offsets[j]) = *metric;
+    }
+    let ours = calls.decode_metrics(part, &mut arrays);
+    tally.same(&("decode metrics", rooms, Hex(part)), ours, reference.map(|_| ()))?;
+    tally.same(&("decoded metrics", rooms, Hex(part)), arrays, expected)
 }
 
 /// Small inputs of which a field goes through every value, and inputs on which other
