@@ -38,21 +38,24 @@ fn above_offsets(ato: u16) -> u16
 pub fn case_number(m: u16) -> u8
     ensures value { λ r. ⌜ r ≡ caseNumber (decodeOf m) ⌝ }
 {
-    (m / RECEIVED_BIT + above_offsets(received_bits(m) % MARK_UNIT)) as u8
+    let bits = received_bits(m);
+    (m / RECEIVED_BIT + above_offsets(bits % MARK_UNIT)) as u8
 }
 
 // The mark of a metric; 0 where its case has none.
 pub fn mark_or_zero(m: u16) -> u8
     ensures value { λ r. ⌜ r ≡ markOr (decodeOf m) 0 ⌝ }
 {
-    (received_bits(m) / MARK_UNIT % 4) as u8
+    let bits = received_bits(m);
+    (bits / MARK_UNIT % 4) as u8
 }
 
 // The offset of a metric; 0 where its case has none.
 pub fn offset_or_zero(m: u16) -> u16
     ensures value { λ r. ⌜ r ≡ offsetOr (decodeOf m) 0 ⌝ }
 {
-    let ato = received_bits(m) % MARK_UNIT;
+    let bits = received_bits(m);
+    let ato = bits % MARK_UNIT;
     if LARGEST_OFFSET < ato {
         return 0;
     }

@@ -1,5 +1,6 @@
 -- `metric_arrays::decode_metrics` meets its contract. Assumes nothing.
 use mathlib.Core.Path.{sym, ap, _∙_}
+use native.Mathlib.Omega.{arith}
 use Rattle.metric_arrays.specs.Arrays.{Arrays, arraysAfter}
 use Rattle.metric_arrays.specs.declared.ArraysAnswer.the-variants.{Decoded}
 use Rattle.metric_arrays.proofs.Answers.{short-cases, short-marks, short-offsets, long-enough}
@@ -11,7 +12,7 @@ returns : tie.Need-returns
 returns c = short-cases _ _ (c .if1 .taken)
 
 returns-2 : tie.Need-returns-2
-returns-2 c = short-marks _ _ (c .before .if1 .left) (c .if2 .taken)
+returns-2 c = short-marks _ _ (c .before .if1 .left) (omega (arith, c .before .if1 .left, c .if2 .taken))
 
 returns-3 : tie.Need-returns-3
 returns-3 c = short-offsets _ _ (c .before .before .if1 .left) (c .before .if2 .left) (c .if3 .taken)

@@ -1,6 +1,6 @@
 -- `metric_arrays::fill` meets its contract. The invariant, of each of the three arrays: what is left to write from here makes
 -- of it what all makes of it at the start. Assumes nothing.
-use Prim.Native.Nat.{_-_, _≤_}
+use Prim.Native.Nat.{_-_, _≤_, _<_}
 use mathlib.Core.Path.{_≡_, refl}
 use native.Mathlib.Omega.{arith}
 use lib.ListN.{length, length-set}
@@ -29,7 +29,7 @@ loop-again c =
     let l = at-loop .loop in
     let a = at-loop .before .before .before .before .before .args in
     let s = a .part .now in
-    let below = after-get16 .before .loop-test .taken in
+    let below : l .j < a .n = omega (arith, after-get16 .before .loop-test .taken) in
     let m = after-get16 .get16 .ensures in (
       omega arith,
       simp length-set (l .inv .1),
