@@ -1,5 +1,5 @@
 -- What `ccfb_block_metrics` answers and leaves behind its pointers: from the reader's answer.
-use Prim.Native.Nat.{ℕ, _*_}
+use Prim.Native.Nat.{_*_}
 use mathlib.Core.List.{[], _∷_}
 use Rattle.refusal.specs.Numbers.{numberOf}
 use Rattle.block_reader.specs.declared.BlockAnswer.{BlockAnswer}

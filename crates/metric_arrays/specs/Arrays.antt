@@ -7,7 +7,6 @@ use lib.ListN.{length}
 use lib.Seq.{sets}
 use lib.Dec.{ltb}
 use Rattle.metric.specs.Metric.{caseNumber, decodeOf}
-use Rattle.metric.specs.declared.Metric.{Metric}
 use Rattle.metric_fields.specs.Fields.{markOr, offsetOr}
 use Rattle.reader.specs.Reading.{metricsAt}
 use Rattle.metric_arrays.specs.declared.ArraysAnswer.{ArraysAnswer}
