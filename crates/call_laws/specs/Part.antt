@@ -13,7 +13,7 @@ use Rattle.reports.specs.declared.MetricAnswer.{MetricAnswer}
 use Rattle.block_reader.specs.Blocks.{readBlock}
 use Rattle.metric_reader.specs.Metrics.{blockRefusal, metricsPart, readMetric}
 use Rattle.ccfb_calls.specs.Called.{Called, called}
-use Rattle.ccfb_reports.specs.Reports.{metricCalled}
+use Rattle.ccfb_block_metric.specs.Metric.{metricCalled}
 use Rattle.ccfb_walk.specs.Walk.{metricAtCalled}
 use Rattle.block_reader.specs.declared.BlockAnswer.the-variants as answer
 use Rattle.metric_part.specs.declared.PartAnswer.the-variants as part
