@@ -20,7 +20,7 @@ use Rattle.block_reader.specs.declared.BlockAnswer.{BlockAnswer}
 use Rattle.metric_reader.proofs.Within.{within, located-within}
 use Rattle.ccfb_calls.specs.Called.{called}
 use Rattle.ccfb_reports.specs.Reports.{partCalled}
-use Rattle.call_laws.specs.Walk.{Memory, Gives}
+use Rattle.call_laws.specs.Walk.{Memory, WalkGives}
 use Rattle.call_laws.specs.Part.{metricsGiven, numberGiven, numbered, HoldsMetrics, AnswersMetrics, PartGiven}
 use Rattle.call_laws.proofs.Calls.{answers, numbers, step-given}
 use Rattle.call_laws.proofs.Walk.{accepted-yields}
@@ -81,7 +81,7 @@ module _ (s : List ℕ) where
 
   -- ---- a block that the walk gives
 
-  module _ (m : Memory) (k : ℕ) (b : ReportBlock) (g : Gives s m k b) where
+  module _ (m : Memory) (k : ℕ) (b : ReportBlock) (g : WalkGives s m k b) where
     -- its metrics are within the octets, also where the reader refuses what stands behind it
     pub given-within : Within s b
     given-within =

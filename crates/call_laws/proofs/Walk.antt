@@ -21,7 +21,7 @@ use Rattle.walk.proofs.Walks.{walk-step, walk-block, walk-end, walk-refused}
 use Rattle.reader.specs.Reading.{decoded, decodePacket, readOf, blockIn}
 use Rattle.reader.proofs.Answers as reader
 use Rattle.block_reader.specs.Blocks.{nth}
-use Rattle.call_laws.specs.Walk.{Memory, nextCall, blockGiven, Reaches, Gives, Ends, Refuses, Yields}
+use Rattle.call_laws.specs.Walk.{Memory, nextCall, blockGiven, Reaches, WalkGives, Ends, Refuses, Yields}
 use Rattle.call_laws.proofs.Calls.{numbers, start-given, start-refused, step-given, step-refused, step-ended, not-29}
 use Rattle.packet_header.specs.declared.Start.the-variants as start
 use Rattle.walk.specs.declared.Step.the-variants.{Block, End, Refused}
@@ -132,7 +132,7 @@ module _ (s : List ℕ) where
           rest = p .rest ∙ ap (front (p .blocks)) (given-block k at behind b h) ∙ sym (front-last (p .blocks) b (walkFrom s behind));
         }
 
-    gives-nth : (bs : List ReportBlock) → walkOf s ≡ walked bs → (k : ℕ) (b : ReportBlock) → Gives s m k b
+    gives-nth : (bs : List ReportBlock) → walkOf s ≡ walked bs → (k : ℕ) (b : ReportBlock) → WalkGives s m k b
         → (k < length bs) × (nth bs k ≡ answer.Found b)
     gives-nth bs f k b g =
         let p = passed (g .reached) in
@@ -162,15 +162,15 @@ module _ (s : List ℕ) where
     -- ---- the walk gets to the end, or to the refusal, of the reader's walk
 
     abbrev Outcome : ℕ → Walked → Type 0
-    Outcome k (walked bs) = ((i : ℕ) (b : ReportBlock) → nth bs i ≡ answer.Found b → Gives s m (k + i) b) × Ends s m (k + length bs)
+    Outcome k (walked bs) = ((i : ℕ) (b : ReportBlock) → nth bs i ≡ answer.Found b → WalkGives s m (k + i) b) × Ends s m (k + length bs)
     Outcome k (stopped e) = Refuses s m e
 
-    in-front : (k : ℕ) (b : ReportBlock) (w : Walked) → Gives s m k b → Outcome (suc k) w → Outcome k (inFront b w)
+    in-front : (k : ℕ) (b : ReportBlock) (w : Walked) → WalkGives s m k b → Outcome (suc k) w → Outcome k (inFront b w)
     in-front k b (walked bs) g o = (by-place, subst (Ends s m) (omega arith) (o .1))
       where
-        by-place : (i : ℕ) (x : ReportBlock) → nth (b ∷ bs) i ≡ answer.Found x → Gives s m (k + i) x
+        by-place : (i : ℕ) (x : ReportBlock) → nth (b ∷ bs) i ≡ answer.Found x → WalkGives s m (k + i) x
         by-place zero x h = let z : b ≡ x = cc in rw (add-zero, ← z) g
-        by-place (suc i) x h = subst (λ (n : ℕ). Gives s m n x) (omega arith) (o .0 i x h)
+        by-place (suc i) x h = subst (λ (n : ℕ). WalkGives s m n x) (omega arith) (o .0 i x h)
     in-front k b (stopped e) g o = o
 
     stepped : (k at : ℕ) → Reaches s m k at
@@ -205,7 +205,7 @@ module _ (s : List ℕ) where
         record {
           each = λ k u.
               let b = nth-there bs k (omega arith) in
-              (b .0, (rw f (b .1), subst (λ (i : ℕ). Gives s m i (b .0)) (omega arith) (o .0 k (b .0) (b .1))));
+              (b .0, (rw f (b .1), subst (λ (i : ℕ). WalkGives s m i (b .0)) (omega arith) (o .0 k (b .0) (b .1))));
           only = λ k b g. let r = gives-nth bs f k b g in (omega (arith, r .0), rw f (r .1));
           end = subst (Ends s m) (omega arith) (o .1);
           once = λ k e. let z = sym (ends-accepted k e) ∙ h in cc;

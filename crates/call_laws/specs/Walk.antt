@@ -42,7 +42,7 @@ pub data Reaches (s : List ℕ) (m : Memory) : ℕ → ℕ → Type 0 where
       → Reaches s m (suc k) behind
 
 -- the walk gives b as its block k, from 0
-pub record Gives (s : List ℕ) (m : Memory) (k : ℕ) (b : ReportBlock) : Type 0 where
+pub record WalkGives (s : List ℕ) (m : Memory) (k : ℕ) (b : ReportBlock) : Type 0 where
   pub at : ℕ
   pub behind : ℕ
   pub reached : Reaches s m k at
@@ -62,7 +62,7 @@ pub data Refuses (s : List ℕ) (m : Memory) (e : Refusal) : Type 0 where
 
 -- ---- the walk of a packet of n blocks: just the reader's blocks 0 to n - 1, and then the end
 pub record Yields (s : List ℕ) (m : Memory) (n : ℕ) : Type 0 where
-  pub each : (k : ℕ) → k < n → (b : ReportBlock) × ((readBlock s k ≡ answer.Found b) × Gives s m k b)
-  pub only : (k : ℕ) (b : ReportBlock) → Gives s m k b → (k < n) × (readBlock s k ≡ answer.Found b)
+  pub each : (k : ℕ) → k < n → (b : ReportBlock) × ((readBlock s k ≡ answer.Found b) × WalkGives s m k b)
+  pub only : (k : ℕ) (b : ReportBlock) → WalkGives s m k b → (k < n) × (readBlock s k ≡ answer.Found b)
   pub end : Ends s m n
   pub once : (k : ℕ) → Ends s m k → k ≡ n

@@ -5,16 +5,16 @@ use Rattle.metric_arrays.specs.Arrays.{Arrays, ArraysAfter}
 use Rattle.metric_arrays.specs.declared.ArraysAnswer.{ArraysAnswer}
 use Rattle.metric_arrays.specs.declared.ArraysAnswer.the-variants as arrays
 
-pub record Decoded : Type 0 where
+pub record Decoding : Type 0 where
   pub answer : ℕ
   pub arrays : Arrays
 
-abbrev pub decoded : ℕ → Arrays → Decoded
-decoded r a = record { answer = r; arrays = a }
+abbrev pub decoding : ℕ → Arrays → Decoding
+decoding r a = record { answer = r; arrays = a }
 
-abbrev pub decodeCalledBy : ArraysAnswer → Arrays → Decoded
-decodeCalledBy arrays.Decoded a = decoded 0 a
-decodeCalledBy (arrays.Refused e) a = decoded (numberOf e) a
+abbrev pub decodeCalledBy : ArraysAnswer → Arrays → Decoding
+decodeCalledBy arrays.Decoded a = decoding 0 a
+decodeCalledBy (arrays.Refused e) a = decoding (numberOf e) a
 
-abbrev pub decodeCalled : ArraysAfter → Decoded
+abbrev pub decodeCalled : ArraysAfter → Decoding
 decodeCalled o = decodeCalledBy (o .answer) (o .arrays)

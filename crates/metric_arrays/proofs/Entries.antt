@@ -16,7 +16,7 @@ use Rattle.metric.specs.declared.Metric.{Metric}
 use Rattle.metric_part.specs.Part.{caseAt}
 use Rattle.reader.specs.Reading.{metricsAt}
 use Rattle.metric_arrays.specs.Arrays.{Arrays, ArraysAfter, arraysAfter, caseField, markField, offsetField, metricCount, decodedAll}
-use Rattle.metric_arrays.specs.Entries.{Holds, Entry, SameEntry}
+use Rattle.metric_arrays.specs.Entries.{RoomFor, EntryIs, SameEntry}
 use Rattle.metric_arrays.proofs.Answers.{short-cases, short-marks, short-offsets, long-enough}
 use Rattle.refusal.specs.declared.Refusal.the-variants.{OutputTooShort}
 use Rattle.metric_part.specs.declared.PartAnswer.the-variants.{Case}
@@ -51,11 +51,11 @@ module _ (field : ℕ → ℕ) (s : List ℕ) where
 
 module _ (part : List ℕ) (a : Arrays) where
   -- arrays that hold all metrics are accepted
-  pub decoded-given : Holds a (metricCount part) → decodedAll part a .answer ≡ Decoded
+  pub decoded-given : RoomFor a (metricCount part) → decodedAll part a .answer ≡ Decoded
   decoded-given h = ap (λ (x : ArraysAfter). x .answer) (long-enough part a (h .cases) (h .marks) (h .offsets))
 
   -- and any others refused with 10, and left as they were
-  pub refused-given : (Holds a (metricCount part) → ⊥) → decodedAll part a ≡ arraysAfter (Refused OutputTooShort) a
+  pub refused-given : (RoomFor a (metricCount part) → ⊥) → decodedAll part a ≡ arraysAfter (Refused OutputTooShort) a
   refused-given none =
       split-le (metricCount part) (length (a .cases))
       (λ c. split-le (metricCount part) (length (a .marks))
@@ -66,7 +66,7 @@ module _ (part : List ℕ) (a : Arrays) where
       (λ c. sym (short-cases part a c))
 
   -- entry j of accepted arrays is what is asked of the part for metric j
-  pub decoded-entry : Holds a (metricCount part) → (j : ℕ) (m : Metric) → caseAt part j ≡ Case m → Entry (decodedAll part a .arrays) j m
+  pub decoded-entry : RoomFor a (metricCount part) → (j : ℕ) (m : Metric) → caseAt part j ≡ Case m → EntryIs (decodedAll part a .arrays) j m
   decoded-entry h j m e =
       let n = metricCount part in
       split-le n j
@@ -80,7 +80,7 @@ module _ (part : List ℕ) (a : Arrays) where
       }))
 
   -- the entries behind the metrics stay
-  pub decoded-rest : Holds a (metricCount part) → (j : ℕ) → metricCount part ≤ j → SameEntry (decodedAll part a .arrays) a j
+  pub decoded-rest : RoomFor a (metricCount part) → (j : ℕ) → metricCount part ≤ j → SameEntry (decodedAll part a .arrays) a j
   decoded-rest h j l =
       let n = metricCount part in
       rw (long-enough part a (h .cases) (h .marks) (h .offsets)) (record {

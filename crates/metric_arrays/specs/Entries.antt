@@ -8,13 +8,13 @@ use Rattle.metric_fields.specs.Fields.{markOr, offsetOr}
 use Rattle.metric_arrays.specs.Arrays.{Arrays}
 
 -- every array has n entries or more
-pub record Holds (a : Arrays) (n : ℕ) : Type 0 where
+pub record RoomFor (a : Arrays) (n : ℕ) : Type 0 where
   pub cases : n ≤ length (a .cases)
   pub marks : n ≤ length (a .marks)
   pub offsets : n ≤ length (a .offsets)
 
 -- entry j is this case: its number, and its mark and its offset, 0 where it has none
-pub record Entry (a : Arrays) (j : ℕ) (m : Metric) : Type 0 where
+pub record EntryIs (a : Arrays) (j : ℕ) (m : Metric) : Type 0 where
   pub number : getD (a .cases) j 0 ≡ caseNumber m
   pub mark : getD (a .marks) j 0 ≡ markOr m 0
   pub offset : getD (a .offsets) j 0 ≡ offsetOr m 0
