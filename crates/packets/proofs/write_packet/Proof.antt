@@ -1,4 +1,5 @@
 -- `packets::write_packet` meets its contract. Assumes nothing.
+use mathlib.Core.Path.{_≡_}
 use native.Mathlib.Omega.{arith}
 use lib.ListN.{take}
 use Rattle.blocks.specs.Steps.{remaining, nextPacket, metricFound}
@@ -34,11 +35,13 @@ returns c =
     let after-put-blocks = after-out .before in
     let a = after-put-blocks .before .before .before .before .args in
     let b = after-put-blocks .put-blocks .ensures in
+    let rs = take (a .n) (a .requests) in
+    let left : remaining rs (after-put-blocks .put-blocks .result .rest) ≡ nextPacket (a .limit) rs (a .from) .rest = b .rest in
     record {
-      content = packet-parts (metricFound (a .cells .now) (a .rts) (a .found .now)) (take (a .n) (a .requests)) (a .sender)
-          (a .rts) (nextPacket (a .limit) (take (a .n) (a .requests)) (a .from) .packet) (a .out .now) _ _ _ _
+      content = packet-parts (metricFound (a .cells .now) (a .rts) (a .found .now)) rs (a .sender)
+          (a .rts) (nextPacket (a .limit) rs (a .from) .packet) (a .out .now) _ _ _ _
           (b .content) (b .octets) (after-put32 .put32 .ensures) (after-put-header .put-header .ensures);
-      rest = b .rest;
+      rest = left;
       octets = omega (arith, b .octets);
       range = b .range;
     }
