@@ -1,5 +1,6 @@
 -- `reader::count_blocks` meets its contract. Assumes nothing.
-use mathlib.Core.Path.{sym, ap, _∙_}
+use mathlib.Core.Path.{_≡_, sym, ap, _∙_}
+use Rattle.walk.specs.Walk.{walkFrom}
 use Rattle.reader.specs.Steps.{counted}
 use Rattle.reader.proofs.Answers.{start-at, start-refused}
 use borrow.Author.Needs.{needs}
@@ -9,7 +10,10 @@ use Rattle.reader.proofs.count_blocks.Tie as tie
 returns : tie.Need-returns
 returns c =
     let start = c .before .before .before .before .read-header in
-    c .count-blocks-from .ensures ∙ ap (counted 0) (sym (start-at _ _ _ (start .ensures) (c .before .before .first .given .1)))
+    let args = c .before .before .before .before .before .before .args in
+    let from = c .before .before .first .given .0 .0 in
+    let walked : c .count-blocks-from .result ≡ counted 0 (walkFrom (args .packet .now) (from .at)) = c .count-blocks-from .ensures in
+    walked ∙ ap (counted 0) (sym (start-at _ _ _ (start .ensures) (c .before .before .first .given .1)))
 
 returns-2 : tie.Need-returns-2
 returns-2 c =
