@@ -3,7 +3,8 @@
  *
  * Every call returns 0 or the number of its refusal, but for ccfb_decode_metric, which refuses
  * nothing. A refused call leaves the caller's memory unchanged; only ccfb_block_metrics then sets
- * its two outputs to 0. docs/MANUAL.md says what each call does.
+ * its two outputs to 0. Pass valid pointers, never NULL, even for an empty array; memory that a
+ * call writes must not overlap its other arguments. docs/MANUAL.md says what each call does.
  */
 #ifndef CCFB_H
 #define CCFB_H
@@ -109,6 +110,9 @@ uint8_t ccfb_write(const uint64_t *places, size_t places_len, const uint64_t *ce
 
 /* ---- Reading a packet; each call accepts any octets */
 
+/* No report block has more metrics. */
+#define CCFB_MOST_REPORTS 16384
+
 /* The sender, RTS and the number of report blocks. Refusals: 21 to 28. */
 uint8_t ccfb_read(const uint8_t *packet, size_t len, uint32_t *sender, uint32_t *rts,
                   size_t *blocks);
@@ -145,15 +149,22 @@ uint8_t ccfb_metric_at(const uint8_t *part, size_t len, size_t j, uint8_t *kind,
                        uint16_t *offset);
 
 /*
- * Decodes all metrics of such a part in one pass: kinds[j], marks[j] and offsets[j] are the kind,
- * the ECN mark and the offset in 1/1024 s of metric j, which is that of the block's number
- * begin + j. A kind without a mark or an offset has 0 there.
+ * Decodes all metrics of a block in one pass. Metric j is that of sequence number begin + j modulo
+ * 65536; its kind, ECN mark and offset in 1/1024 s go to kinds[j], marks[j] and offsets[j].
  *
- *   part                    2 octets for each metric: len / 2 metrics, an odd last octet is none
- *   kinds, marks, offsets   room for len / 2 entries or more; the entries after them stay
+ * Unlike ccfb_metric_at, this call writes 0 where a kind has no mark or no offset. So look at
+ * kinds[j] first: marks[j] is a mark unless the kind is CCFB_NOT_RECEIVED (CCFB_NOT_ECT is 0 too),
+ * and offsets[j] is a delay only if the kind is CCFB_RECEIVED.
+ *
+ *   part, len               packet + metrics_at and 2 * count of a block; len is in octets, and an
+ *                           odd last octet is ignored
+ *   kinds_len, marks_len,   how many entries each array has (entries, not octets); those after the
+ *   offsets_len             first len / 2 stay as they were
+ *
+ * The arrays must not overlap each other or the part. No pointer may be NULL, even if len is 0.
  *
  * Returns 0, or this; the arrays are then unchanged:
- *   CCFB_OUTPUT_TOO_SHORT   one of the three has fewer than len / 2 entries
+ *   CCFB_OUTPUT_TOO_SHORT   an array has fewer than len / 2 entries
  */
 uint8_t ccfb_decode_metrics(const uint8_t *part, size_t len, uint8_t *kinds, size_t kinds_len,
                             uint8_t *marks, size_t marks_len, uint16_t *offsets,

@@ -53,6 +53,34 @@ static const struct decode_case decodes[] = {
     {0xFFFF, CCFB_NO_TIME, CCFB_CE, OFFSET_BEFORE},
 };
 
+enum { DECODES = sizeof decodes / sizeof decodes[0] };
+
+/* The same metrics in one part: what a kind does not have is 0; refused, the arrays stay. */
+static void check_part(void)
+{
+    uint8_t part[2 * DECODES], kinds[DECODES], marks[DECODES];
+    uint16_t offsets[DECODES];
+    for (size_t i = 0; i < DECODES; i++) {
+        part[2 * i] = (uint8_t)(decodes[i].metric >> 8);
+        part[2 * i + 1] = (uint8_t)decodes[i].metric;
+        kinds[i] = marks[i] = MARK_BEFORE;
+        offsets[i] = OFFSET_BEFORE;
+    }
+    check(ccfb_decode_metrics(part, sizeof part, kinds, DECODES, marks, DECODES, offsets,
+                              DECODES - 1) == CCFB_OUTPUT_TOO_SHORT, "entries", DECODES - 1);
+    for (size_t i = 0; i < DECODES; i++)
+        check(kinds[i] == MARK_BEFORE && marks[i] == MARK_BEFORE && offsets[i] == OFFSET_BEFORE,
+              "unchanged entry", i);
+    check(ccfb_decode_metrics(part, sizeof part, kinds, DECODES, marks, DECODES, offsets,
+                              DECODES) == 0, "entries", DECODES);
+    for (size_t i = 0; i < DECODES; i++) {
+        uint8_t mark = decodes[i].mark == MARK_BEFORE ? 0 : decodes[i].mark;
+        uint16_t offset = decodes[i].offset == OFFSET_BEFORE ? 0 : decodes[i].offset;
+        check(kinds[i] == decodes[i].kind && marks[i] == mark && offsets[i] == offset,
+              "metric of the part", decodes[i].metric);
+    }
+}
+
 int main(void)
 {
     const uint32_t rts = 0x00050000;
@@ -69,24 +97,7 @@ int main(void)
         check(kind == decodes[i].kind && mark == decodes[i].mark && offset == decodes[i].offset,
               "metric", decodes[i].metric);
     }
-    /* The same metrics in one part: what a kind does not have is 0. */
-    enum { DECODES = sizeof decodes / sizeof decodes[0] };
-    uint8_t part[2 * DECODES], kinds[DECODES], marks[DECODES];
-    uint16_t offsets[DECODES];
-    for (size_t i = 0; i < DECODES; i++) {
-        part[2 * i] = (uint8_t)(decodes[i].metric >> 8);
-        part[2 * i + 1] = (uint8_t)decodes[i].metric;
-    }
-    check(ccfb_decode_metrics(part, sizeof part, kinds, DECODES, marks, DECODES, offsets,
-                              DECODES - 1) == CCFB_OUTPUT_TOO_SHORT, "entries", DECODES - 1);
-    check(ccfb_decode_metrics(part, sizeof part, kinds, DECODES, marks, DECODES, offsets,
-                              DECODES) == 0, "entries", DECODES);
-    for (size_t i = 0; i < DECODES; i++) {
-        uint8_t mark = decodes[i].mark == MARK_BEFORE ? 0 : decodes[i].mark;
-        uint16_t offset = decodes[i].offset == OFFSET_BEFORE ? 0 : decodes[i].offset;
-        check(kinds[i] == decodes[i].kind && marks[i] == mark && offsets[i] == offset,
-              "metric of the part", decodes[i].metric);
-    }
+    check_part();
     if (failed != 0) {
         return 1;
     }

@@ -51,7 +51,7 @@ fn row<C: Copy, S>(
 }
 
 /// One run. Never inlined, so that ours and the baseline are called by one and the same loop: two
-/// copies of a loop differ in where they stand in memory, and a short row in its time with them.
+/// copies of a loop lie at different addresses, which changes the time of a short row.
 #[inline(never)]
 fn timed<C: Copy, S>(
     calls: C,

@@ -1,5 +1,6 @@
 //! The 16-bit metric: ages as exact fractions of a second, fields as a string of bits.
 
+use crate::calls::metric as kinds;
 use crate::refusal::Refusal;
 use std::cmp::Ordering;
 
@@ -119,14 +120,13 @@ pub fn decode(metric: u16) -> Metric {
     }
 }
 
-/// A metric as three numbers: 0 not received, 1 received with an offset, 2 over range, 3 no time;
-/// the mark; the offset. Where there is no mark or no offset, 0.
+/// A metric as three numbers: its kind, its mark and its offset, 0 where it has none.
 pub fn numbers(metric: u16) -> (u8, u8, u16) {
     match decode(metric) {
-        Metric::NotReceived => (0, 0, 0),
-        Metric::Received { mark, offset } => (1, mark, offset),
-        Metric::OverRange { mark } => (2, mark, 0),
-        Metric::NoTime { mark } => (3, mark, 0),
+        Metric::NotReceived => (kinds::NOT_RECEIVED, 0, 0),
+        Metric::Received { mark, offset } => (kinds::RECEIVED, mark, offset),
+        Metric::OverRange { mark } => (kinds::OVER_RANGE, mark, 0),
+        Metric::NoTime { mark } => (kinds::NO_TIME, mark, 0),
     }
 }
 
@@ -191,8 +191,6 @@ mod tests {
             assert_eq!(decode_part(&part, rooms), Err(Refusal::OutputTooShort));
         }
         assert_eq!(decode_part(&part[..1], [0, 0, 0]), Ok(vec![]));
-        assert_eq!(numbers(0xFFFE), (2, 3, 0));
-        assert_eq!(numbers(0xDFFF), (3, 2, 0));
     }
 
     #[test]
@@ -201,5 +199,9 @@ mod tests {
         assert_eq!(decode(0xBFFD), Metric::Received { mark: 1, offset: 8189 });
         assert_eq!(decode(0xFFFE), Metric::OverRange { mark: 3 });
         assert_eq!(decode(0xFFFF), Metric::NoTime { mark: 3 });
+        assert_eq!(numbers(0x7FFF), (0, 0, 0));
+        assert_eq!(numbers(0xBFFD), (1, 1, 8189));
+        assert_eq!(numbers(0xFFFE), (2, 3, 0));
+        assert_eq!(numbers(0xDFFF), (3, 2, 0));
     }
 }

@@ -200,10 +200,15 @@ impl<'a> Block<'a> {
         raw::metric_at(self.part, j)
     }
 
-    /// All metrics at once, the quickest way to read a block: entry `j` is of the number
-    /// `begin + j`. `kinds` get the numbers of [`kind`](crate::kind), `marks` those of
-    /// [`Mark::number`](crate::Mark::number), and `offsets` count 1/1024 s; a kind without a mark or
-    /// an offset has 0 there. Returns how many entries were written; those after them stay.
+    /// Decodes all metrics at once, the quickest way to read a block of 16 numbers or more. Entry
+    /// `j` is of the number `begin().wrapping_add(j)`: `kinds[j]` is one of [`kind`](crate::kind),
+    /// `marks[j]` is as [`Mark::number`](crate::Mark::number), and `offsets[j]` counts 1/1024 s.
+    /// Each slice needs [`count`](Block::count) entries. Returns how many were written; those
+    /// after them stay as they were.
+    ///
+    /// Where the kind has no mark or no offset, 0 is written. So look at the kind first: a mark of
+    /// 0 is not-ECT only if the kind is not `NOT_RECEIVED`, and an offset of 0 is a delay only if
+    /// it is `RECEIVED`.
     ///
     /// # Errors
     ///

@@ -82,7 +82,7 @@ fn metric_of(kind: u8, mark: u8, offset: u16) -> Metric {
         kind::NOT_RECEIVED => Metric::NotReceived,
         kind::RECEIVED => Metric::Received { mark, offset },
         kind::OVER_RANGE => Metric::OverRange { mark },
-        _ => Metric::NoTime { mark },
+        _ => Metric::NoTime { mark }, // kind::NO_TIME, the only other one
     }
 }
 

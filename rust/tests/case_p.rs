@@ -44,12 +44,12 @@ fn read() -> Result<(), Refusal> {
 #[test]
 fn decoded() -> Result<(), Refusal> {
     let packet = Packet::read(&PACKET)?;
-    let (mut kinds, mut marks, mut offsets) = ([9; 5], [9; 5], [9; 5]);
+    let (mut kinds, mut marks, mut offsets) = ([9; 5], [9; 5], [0x0909; 5]);
     let entries = packet.block(0)?.decode_metrics(&mut kinds, &mut marks, &mut offsets)?;
     assert_eq!(entries, 4);
     assert_eq!(kinds, [kind::NOT_RECEIVED, kind::RECEIVED, kind::NOT_RECEIVED, kind::RECEIVED, 9]);
     assert_eq!(marks, [0, 2, 0, 3, 9]);
-    assert_eq!(offsets, [0, 512, 0, 0, 9]);
+    assert_eq!(offsets, [0, 512, 0, 0, 0x0909]);
     Ok(())
 }
 

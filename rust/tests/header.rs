@@ -1,6 +1,7 @@
-//! The C header has the refusals and the kinds of metric under the same names and numbers.
+//! The C header has the refusals, the marks and the kinds of metric under the same names and
+//! numbers.
 
-use ccfb::{kind, Refusal};
+use ccfb::{kind, Mark, Refusal};
 
 /// The refusals of arrival files, which no call of the library gives.
 const OF_THE_PROGRAM: std::ops::RangeInclusive<u8> = 11..=14;
@@ -42,4 +43,15 @@ fn kinds() {
         format!("#define CCFB_NO_TIME {}", kind::NO_TIME),
     ];
     assert_eq!(kinds.lines().skip(1).collect::<Vec<_>>(), defined);
+}
+
+#[test]
+fn marks() {
+    let header = include_str!("../../include/ccfb.h");
+    for (name, mark) in
+        [("NOT_ECT", Mark::NotEct), ("ECT_1", Mark::Ect1), ("ECT_0", Mark::Ect0), ("CE", Mark::Ce)]
+    {
+        let line = format!("\n#define CCFB_{name} {}\n", mark.number());
+        assert!(header.contains(&line), "{line}");
+    }
 }

@@ -1,4 +1,4 @@
-// The reader's answer about block k of a packet. As the reader of the whole packet it accepts any octets, and answers or
+// The reader's answer about block k of a packet. Like the reader of the whole packet it accepts any octets, and answers or
 // gives the first refusal.
 ghost use mathlib.Core.Path.{_≡_};
 ghost use Rattle.walk.specs.Walk.{walkFrom};
@@ -37,7 +37,7 @@ fn after_blocks(packet: &[u8], from: Cursor, k: usize) -> Start
     Start::At(cursor)
 }
 
-// The block at a cursor. The blocks behind it are walked too: their refusals come first.
+// The block at a cursor. The blocks after it are checked too: their refusals come before the answer.
 fn block_at(packet: &[u8], at: Cursor) -> BlockAnswer
     ensures value { λ r. ⌜ r ≡ located (walkFrom (now (packet .entry)) (at .at)) 0 ⌝ }
 {

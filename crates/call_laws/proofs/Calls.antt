@@ -78,10 +78,10 @@ module _ (s : List ℕ) (at : ℕ) where
       by-tests (leb (rtsAt s) at) (ltb (rtsAt s) (at + blockHeaderOctets)) (ltb mostReports n) (ltb (rtsAt s) (at + blockOctets n))
       (eqb (fillerAt s at n) 0) (blockHere s at n) (record { at = at + blockOctets n }) e h z
 
-  pub step-ended : (before : List ℕ) → nextCalled (stepAt s at) before ≡ called 29 before → stepAt s at ≡ End
+  pub step-ended : (before : List ℕ) → nextCalled (stepAt s at) before ≡ refusedWith NoBlock before → stepAt s at ≡ End
   step-ended before h = by-step (stepAt s at) refl h
     where
-      by-step : (d : Step) → stepAt s at ≡ d → nextCalled d before ≡ called 29 before → d ≡ End
+      by-step : (d : Step) → stepAt s at ≡ d → nextCalled d before ≡ refusedWith NoBlock before → d ≡ End
       by-step (Block x c) f h = never (let z = answers h in cc)
       by-step End f h = refl
       by-step (Refused e) f h = absurd (not-29 e f (own-number e NoBlock (answers h)))

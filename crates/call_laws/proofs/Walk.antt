@@ -161,11 +161,11 @@ module _ (s : List ℕ) where
 
     -- ---- the walk gets to the end, or to the refusal, of the reader's walk
 
-    abbrev Outcome : ℕ → Walked → Type 0
-    Outcome k (walked bs) = ((i : ℕ) (b : ReportBlock) → nth bs i ≡ answer.Found b → WalkGives s m (k + i) b) × Ends s m (k + length bs)
-    Outcome k (stopped e) = Refuses s m e
+    abbrev Finds : ℕ → Walked → Type 0
+    Finds k (walked bs) = ((i : ℕ) (b : ReportBlock) → nth bs i ≡ answer.Found b → WalkGives s m (k + i) b) × Ends s m (k + length bs)
+    Finds k (stopped e) = Refuses s m e
 
-    in-front : (k : ℕ) (b : ReportBlock) (w : Walked) → WalkGives s m k b → Outcome (suc k) w → Outcome k (inFront b w)
+    in-front : (k : ℕ) (b : ReportBlock) (w : Walked) → WalkGives s m k b → Finds (suc k) w → Finds k (inFront b w)
     in-front k b (walked bs) g o = (by-place, subst (Ends s m) (omega arith) (o .1))
       where
         by-place : (i : ℕ) (x : ReportBlock) → nth (b ∷ bs) i ≡ answer.Found x → WalkGives s m (k + i) x
@@ -174,26 +174,26 @@ module _ (s : List ℕ) where
     in-front k b (stopped e) g o = o
 
     stepped : (k at : ℕ) → Reaches s m k at
-        → ((b : ReportBlock) (c : Cursor) → stepAt s at ≡ Block b c → Reaches s m (suc k) (c .at) → Outcome (suc k) (walkFrom s (c .at)))
-        → Outcome k (walkFrom s at)
+        → ((b : ReportBlock) (c : Cursor) → stepAt s at ≡ Block b c → Reaches s m (suc k) (c .at) → Finds (suc k) (walkFrom s (c .at)))
+        → Finds k (walkFrom s at)
     stepped k at r rest = rw (walk-step s at) (by-step (stepAt s at) refl)
       where
-        by-step : (d : Step) → stepAt s at ≡ d → Outcome k (onward d (walkFrom s))
+        by-step : (d : Step) → stepAt s at ≡ d → Finds k (onward d (walkFrom s))
         by-step (Block b c) f =
             let given : nextCall s m k at ≡ blockGiven b (c .at) = rw f in
             in-front k b (walkFrom s (c .at)) (record { at = at; behind = c .at; reached = r; given = given }) (rest b c f (Reaches.next b r given))
         by-step End f = ((λ i b h. never (cc)), rw add-zero (record { at = at; reached = r; ended = rw f }))
         by-step (Refused e) f = Refuses.block r (rw f) (not-29 s at e f)
 
-    run : (n k at : ℕ) → length s ≤ n + at → Reaches s m k at → Outcome k (walkFrom s at)
+    run : (n k at : ℕ) → length s ≤ n + at → Reaches s m k at → Finds k (walkFrom s at)
     run zero k at l r = stepped k at r (λ b c f q. absurd (omega (arith, inside s at b c f)))
     run (suc n) k at l r = stepped k at r (λ b c f q. run n (suc k) (c .at) (omega (arith, next-more s at b c f)) q)
 
-    outcome : Outcome 0 (walkOf s)
+    outcome : Finds 0 (walkOf s)
     unfolding walkOf
     outcome = by-start (startOf s) refl
       where
-        by-start : (d : Start) → startOf s ≡ d → Outcome 0 (started d s)
+        by-start : (d : Start) → startOf s ≡ d → Finds 0 (started d s)
         by-start (start.At c) f = run (length s) 0 (c .at) (omega arith) (Reaches.first (rw f))
         by-start (start.Refused e) f = Refuses.header (rw f)
 

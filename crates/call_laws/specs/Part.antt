@@ -12,9 +12,10 @@ use Rattle.metric_part.specs.declared.PartAnswer.{PartAnswer}
 use Rattle.reports.specs.declared.MetricAnswer.{MetricAnswer}
 use Rattle.block_reader.specs.Blocks.{readBlock}
 use Rattle.metric_reader.specs.Metrics.{blockRefusal, metricsPart, readMetric}
-use Rattle.ccfb_calls.specs.Called.{Called, called}
+use Rattle.ccfb_calls.specs.Called.{Called, called, refusedWith}
 use Rattle.ccfb_block_metric.specs.Metric.{metricCalled}
 use Rattle.ccfb_walk.specs.Walk.{metricAtCalled}
+use Rattle.refusal.specs.declared.Refusal.the-variants.{NoNumber}
 use Rattle.block_reader.specs.declared.BlockAnswer.the-variants as answer
 use Rattle.metric_part.specs.declared.PartAnswer.the-variants as part
 use Rattle.reports.specs.declared.MetricAnswer.the-variants as reported
@@ -54,13 +55,13 @@ pub record AnswersMetrics (s : List ℕ) (k : ℕ) (b : ReportBlock) : Type 0 wh
       → metricCalled (readMetric s k j) number case mark offset
       ≡ withNumber (numberGiven b j) (metricAtCalled (caseAt (metricsGiven s b) j) case mark offset)
   pub past : (j : ℕ) → b .«num_reports» ≤ j → (case mark offset : ℕ)
-      → metricAtCalled (caseAt (metricsGiven s b) j) case mark offset ≡ called 30 (case ∷ mark ∷ offset ∷ [])
+      → metricAtCalled (caseAt (metricsGiven s b) j) case mark offset ≡ refusedWith NoNumber (case ∷ mark ∷ offset ∷ [])
 
 -- what `ccfb_block_metrics` answers, and the offset and the length that it gives, belong to block k: the octets there
 -- are the part that `block_metrics` returns, and the answer is the number that it gives beside the part
-pub record PartGiven (s : List ℕ) (k number at size : ℕ) : Type 0 where
+pub record PartGiven (s : List ℕ) (k given at size : ℕ) : Type 0 where
   pub part : octetsAt s at size ≡ metricsPart (readBlock s k) s
   pub octets : length (metricsPart (readBlock s k) s) ≡ size
-  pub refusal : number ≡ blockRefusal (readBlock s k)
+  pub refusal : given ≡ blockRefusal (readBlock s k)
   pub refused : (e : Refusal) → readBlock s k ≡ answer.Refused e
-      → (number ≡ numberOf e) × (at ≡ 0) × (size ≡ 0) × (metricsPart (readBlock s k) s ≡ [])
+      → (given ≡ numberOf e) × (at ≡ 0) × (size ≡ 0) × (metricsPart (readBlock s k) s ≡ [])

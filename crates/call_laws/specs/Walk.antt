@@ -48,11 +48,11 @@ pub record WalkGives (s : List ℕ) (m : Memory) (k : ℕ) (b : ReportBlock) : T
   pub reached : Reaches s m k at
   pub given : nextCall s m k at ≡ blockGiven b behind
 
--- the walk ends after k blocks: the next call answers 29, and leaves the numbers as they were
+-- the walk ends after k blocks: the next call answers 29, no such block, and leaves the numbers as they were
 pub record Ends (s : List ℕ) (m : Memory) (k : ℕ) : Type 0 where
   pub at : ℕ
   pub reached : Reaches s m k at
-  pub ended : nextCall s m k at ≡ called 29 (at ∷ m .others k)
+  pub ended : nextCall s m k at ≡ refusedWith NoBlock (at ∷ m .others k)
 
 -- a call of the walk refuses with e, which is not the 29 of the end, and leaves the numbers as they were
 pub data Refuses (s : List ℕ) (m : Memory) (e : Refusal) : Type 0 where

@@ -1,5 +1,5 @@
-// The call for C that reads metric j of block k of a packet. Alone in its crate: the compiler then inlines the search for the
-// block, which it does not where two calls share it.
+// The call for C that reads metric j of block k of a packet. It has its own crate so that the compiler inlines the search
+// for the block; with a second caller it does not.
 ghost use mathlib.Core.Path.{_≡_};
 ghost use mathlib.Core.List.{[], _∷_};
 ghost use Rattle.metric_reader.specs.Metrics.{readMetric};

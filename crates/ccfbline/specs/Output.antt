@@ -14,8 +14,8 @@ use Rattle.line_input.specs.Taken.{StopsAtFault}
 use Rattle.ccfbline.specs.declared.Output.{Output}
 use Rattle.ccfbline.specs.declared.Output.the-variants.{Text, Failed}
 
--- For some pieces that the input gave, the front of the output holds what is printed for the file that they make, and the
--- answer is its length. No piece was read after the file's first fault.
+-- For some pieces of octets, the front of the output holds what is printed for the file that they make, and the answer is
+-- its length. No piece comes after the file's first fault. That the input gave these pieces no contract can say.
 pub record TextFor (out : List ℕ) (n : ℕ) (exit : List ℕ) : Type 0 where
   pub pieces : List (List ℕ)
   pub octets : All Octets pieces

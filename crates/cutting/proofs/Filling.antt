@@ -9,7 +9,7 @@ use lib.Dec.{eqb}
 use borrow.Author.Tests.{eq-eqb, ne-eqb}
 use Rattle.lists.specs.All.{All}
 use Rattle.lists.proofs.Cases.{split-eq, split-le}
-use Rattle.packet.specs.Sizes.{blockOctets, blocksOctets, packetOctets}
+use Rattle.packet.specs.Sizes.{packetFrame, blockOctets, blocksOctets, packetOctets}
 use Rattle.cutting.specs.declared.Request.{Request}
 use Rattle.cutting.specs.Cutting.{CutBlock, CutPacket, Cutting, allBlocks, counts, NoStreamTwice, PacketRules}
 use Rattle.cutting.specs.Filling.{oneMore, withNext, NextDoesNotFit, FilledUp}
@@ -84,15 +84,15 @@ with-part (a ∷ []) b j h k = rw (first-count-some j h, first-count-some (b .co
 with-part (a ∷ d ∷ p) b j h k = ap (λ (q : CutPacket). a ∷ q) (with-part (d ∷ p) b j h k)
 
 -- the packet after a full one
-next-packet : (limit : ℕ) (p : CutPacket) (b : CutBlock) (w : List CutBlock) → leastLimit ≤ limit → Full (limit - 12) p (b ∷ w)
-    → NextDoesNotFit limit p (filledFrom (limit - 12) (b ∷ w) .packet)
+next-packet : (limit : ℕ) (p : CutPacket) (b : CutBlock) (w : List CutBlock) → leastLimit ≤ limit → Full (limit - packetFrame) p (b ∷ w)
+    → NextDoesNotFit limit p (filledFrom (limit - packetFrame) (b ∷ w) .packet)
 next-packet limit p b w l f =
-    filled-cases (λ r. NextDoesNotFit limit p (r .packet)) (limit - 12) b w
+    filled-cases (λ r. NextDoesNotFit limit p (r .packet)) (limit - packetFrame) b w
     (λ h. omega arith)
-    (λ h k. rw (with-part p b (fitting (limit - 12)) k (omega arith)) (omega arith))
+    (λ h k. rw (with-part p b (fitting (limit - packetFrame)) k (omega arith)) (omega arith))
     (λ h k. absurd (omega arith))
 
-one-before : (fuel limit : ℕ) (p : CutPacket) (w : List CutBlock) → leastLimit ≤ limit → Full (limit - 12) p w
+one-before : (fuel limit : ℕ) (p : CutPacket) (w : List CutBlock) → leastLimit ≤ limit → Full (limit - packetFrame) p w
     → FilledUp limit (packetsFrom fuel limit w) → FilledUp limit (p ∷ packetsFrom fuel limit w)
 unfolding packetsFrom
 one-before zero limit p w l f h = tt
@@ -104,9 +104,9 @@ unfolding packetsFrom
 packets-filled zero limit n w l c = tt
 packets-filled (suc fuel) limit n [] l c = tt
 packets-filled (suc fuel) limit n (b ∷ w) l c =
-    let rest : List CutBlock = filledFrom (limit - 12) (b ∷ w) .rest in
-    let r = filled-counted (limit - 12) n (b ∷ w) c in
-    one-before fuel limit (filledFrom (limit - 12) (b ∷ w) .packet) rest l (filled-full (limit - 12) n (b ∷ w) c)
+    let rest : List CutBlock = filledFrom (limit - packetFrame) (b ∷ w) .rest in
+    let r = filled-counted (limit - packetFrame) n (b ∷ w) c in
+    one-before fuel limit (filledFrom (limit - packetFrame) (b ∷ w) .packet) rest l (filled-full (limit - packetFrame) n (b ∷ w) c)
     (packets-filled fuel limit (r .0) rest l (r .1))
 
 -- ---- no other cutting is filled up
@@ -173,7 +173,7 @@ same-packet rs room n (b ∷ p) bs c (part {a = a} {w = w} e k l s) o h f =
     rw z (same-part room a b w bs e k l (omega arith) (rw z at s) (rw z at f))
 
 -- each packet of a cutting that is filled up is full, and the cutting after it is filled up
-full-packet : (limit : ℕ) (p : CutPacket) (c : Cutting) → leastLimit ≤ limit → FilledUp limit (p ∷ c) → Full (limit - 12) p (allBlocks c)
+full-packet : (limit : ℕ) (p : CutPacket) (c : Cutting) → leastLimit ≤ limit → FilledUp limit (p ∷ c) → Full (limit - packetFrame) p (allBlocks c)
 full-packet limit p [] l f = tt
 full-packet limit p ([] ∷ c) l f = absurd (f .0)
 full-packet limit p ((b ∷ q) ∷ c) l f =
@@ -192,8 +192,8 @@ packets-only rs limit n w [] l k s o f = rw (split-nil s) (sym (plan-none limit)
 packets-only rs limit n w ([] ∷ c) l k s o f = absurd (omega (arith, o .0 .some))
 packets-only rs limit n [] ((b ∷ p) ∷ c) l k s o f = absurd (split-none s)
 packets-only rs limit n (a ∷ w) ((b ∷ p) ∷ c) l k s o f =
-    let r = same-packet rs (limit - 12) n {w = a ∷ w} (b ∷ p) (allBlocks c) k s (o .0 .once) (omega (arith, o .0 .fits)) (full-packet limit (b ∷ p) c l f) in
-    let m = filled-counted (limit - 12) n (a ∷ w) k in
-    let rest : List CutBlock = filledFrom (limit - 12) (a ∷ w) .rest in
+    let r = same-packet rs (limit - packetFrame) n {w = a ∷ w} (b ∷ p) (allBlocks c) k s (o .0 .once) (omega (arith, o .0 .fits)) (full-packet limit (b ∷ p) c l f) in
+    let m = filled-counted (limit - packetFrame) n (a ∷ w) k in
+    let rest : List CutBlock = filledFrom (limit - packetFrame) (a ∷ w) .rest in
     ap₂ (λ (q : CutPacket) (d : Cutting). q ∷ d) (sym (r .0)) (packets-only rs limit (m .0) rest c l (m .1) (r .1) (o .1) (filled-later limit (b ∷ p) c f))
     ∙ sym (plan-step limit a w l)

@@ -15,8 +15,9 @@ abbrev pub StopsAtFault : IntakeAfter → List (List ℕ) → Type 0
 StopsAtFault o [] = Unit {0}
 StopsAtFault o (piece ∷ pieces) = NoFault o × StopsAtFault (fedNext o piece) pieces
 
--- Pieces of the file were read, up to a fault or a read that gave nothing. What the program then has is what the calls of
--- `feed` leave, each called with what the one before left and the next piece.
+-- Some pieces of octets, none after the file's first fault. What the program has is what the calls of `feed` leave, each
+-- called with what the one before left and the next piece. That the reads gave these pieces, and why no more were read,
+-- no contract can say.
 pub record PiecesTaken (before after : IntakeAfter) : Type 0 where
   pub pieces : List (List ℕ)
   pub octets : All Octets pieces

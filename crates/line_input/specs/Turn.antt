@@ -33,7 +33,7 @@ pub record PieceTaken (before after : IntakeAfter) : Type 0 where
 abbrev pub NoFault : IntakeAfter → Type 0
 NoFault o = (e : Refusal) → o .intake .phase ≡ Faulty e → ⊥
 
--- After the last read: the input was at its end and nothing changed, or the piece has the file's first fault.
+-- After the last read: nothing changed, as where a read gives no octets, or the piece has the file's first fault.
 pub data LastTaken (before after : IntakeAfter) : Type 0 where
   atEnd : heldIn after ≡ heldIn before → LastTaken before after
   atFault : (e : Refusal) → after .intake .phase ≡ Faulty e → PieceTaken before after → LastTaken before after

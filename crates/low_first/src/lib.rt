@@ -1,5 +1,5 @@
-// Reads 16-bit numbers of a slice with their first octet as the low one, for speed alone: a processor that stores numbers
-// so, as x86-64 does, moves both octets in one step, and a loop over them becomes vector code.
+// Reads 16-bit numbers with the first octet low, only for speed: x86-64 stores numbers this way, so both octets are one
+// load, and a loop over them becomes vector code.
 ghost use mathlib.Core.Path.{_≡_};
 ghost use Prim.Native.Nat.{_+_, _*_, _≤_};
 ghost use lib.ListN.{length};
@@ -30,7 +30,7 @@ pub fn low_first_at(s: &[u8], i: usize) -> u16
     in_front(&s[i..])
 }
 
-// The big-endian number at an offset, as octets::get16 gives it.
+// The big-endian number at an offset, as octets::get16 gives it: the two octets of one load, swapped.
 pub fn get16(s: &[u8], i: usize) -> u16
     requires room { ⌜ i + 2 ≤ length (now s) ⌝ }
     ensures value { λ r. ⌜ r ≡ be16 (now (s .entry)) i ⌝ }

@@ -51,12 +51,12 @@ module _ (field : ℕ → ℕ) (s : List ℕ) where
 
 module _ (part : List ℕ) (a : Arrays) where
   -- arrays that hold all metrics are accepted
-  pub decoded-given : RoomFor a (metricCount part) → decodedAll part a .answer ≡ Decoded
-  decoded-given h = ap (λ (x : ArraysAfter). x .answer) (long-enough part a (h .cases) (h .marks) (h .offsets))
+  pub room-decoded : RoomFor a (metricCount part) → decodedAll part a .answer ≡ Decoded
+  room-decoded h = ap (λ (x : ArraysAfter). x .answer) (long-enough part a (h .cases) (h .marks) (h .offsets))
 
   -- and any others refused with 10, and left as they were
-  pub refused-given : (RoomFor a (metricCount part) → ⊥) → decodedAll part a ≡ arraysAfter (Refused OutputTooShort) a
-  refused-given none =
+  pub no-room-refused : (RoomFor a (metricCount part) → ⊥) → decodedAll part a ≡ arraysAfter (Refused OutputTooShort) a
+  no-room-refused none =
       split-le (metricCount part) (length (a .cases))
       (λ c. split-le (metricCount part) (length (a .marks))
       (λ m. split-le (metricCount part) (length (a .offsets))
@@ -74,7 +74,7 @@ module _ (part : List ℕ) (a : Arrays) where
       (λ l.
       let z : decodeOf (be16 part (2 * j)) ≡ m = (let y = rw (lt-leb n j l) at e in cc) in
       rw (long-enough part a (h .cases) (h .marks) (h .offsets), ← z) (record {
-        number = entry-front caseField part (a .cases) n j l (h .cases);
+        case = entry-front caseField part (a .cases) n j l (h .cases);
         mark = entry-front markField part (a .marks) n j l (h .marks);
         offset = entry-front offsetField part (a .offsets) n j l (h .offsets);
       }))
@@ -84,7 +84,7 @@ module _ (part : List ℕ) (a : Arrays) where
   decoded-rest h j l =
       let n = metricCount part in
       rw (long-enough part a (h .cases) (h .marks) (h .offsets)) (record {
-        number = entry-behind caseField part (a .cases) n j l;
+        case = entry-behind caseField part (a .cases) n j l;
         mark = entry-behind markField part (a .marks) n j l;
         offset = entry-behind offsetField part (a .offsets) n j l;
       })

@@ -15,12 +15,12 @@ pub record RoomFor (a : Arrays) (n : ℕ) : Type 0 where
 
 -- entry j is this case: its number, and its mark and its offset, 0 where it has none
 pub record EntryIs (a : Arrays) (j : ℕ) (m : Metric) : Type 0 where
-  pub number : getD (a .cases) j 0 ≡ caseNumber m
+  pub case : getD (a .cases) j 0 ≡ caseNumber m
   pub mark : getD (a .marks) j 0 ≡ markOr m 0
   pub offset : getD (a .offsets) j 0 ≡ offsetOr m 0
 
 -- entry j is the same in both
 pub record SameEntry (a b : Arrays) (j : ℕ) : Type 0 where
-  pub number : getD (a .cases) j 0 ≡ getD (b .cases) j 0
+  pub case : getD (a .cases) j 0 ≡ getD (b .cases) j 0
   pub mark : getD (a .marks) j 0 ≡ getD (b .marks) j 0
   pub offset : getD (a .offsets) j 0 ≡ getD (b .offsets) j 0

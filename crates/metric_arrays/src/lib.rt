@@ -32,8 +32,8 @@ fn fill(part: &[u8], cases: &mut [u8], marks: &mut [u8], offsets: &mut [u16], n:
     }
 }
 
-// Decodes all metrics of a part into the fronts of the three arrays, metric j to entry j. Refusal 10 if one of them is
-// shorter than the metrics are many.
+// Decodes all metrics of a part into the starts of the three arrays, metric j to entry j. Refusal 10 if one of them has
+// fewer entries than the part has metrics.
 pub fn decode_metrics(
     part: &[u8],
     cases: &mut [u8],

@@ -1,6 +1,6 @@
-// The case of a metric as three numbers, without an enum: the case's own number, its mark and its offset. They are for
-// many metrics, whose cases no processor can predict: what is compiled of these functions has no branch, and a loop that
-// calls them becomes vector code.
+// The case of a metric as three numbers, without an enum: the case's own number, its mark and its offset. For many
+// metrics, whose cases cannot be predicted: these functions compile without a branch, and a loop that calls them becomes
+// vector code.
 ghost use mathlib.Core.Path.{_≡_};
 ghost use Prim.Native.Nat.{_-_};
 ghost use mathlib.Core.Bool.{cond};
@@ -11,7 +11,7 @@ use metric::MARK_UNIT;
 use metric::OVER_RANGE;
 use metric::RECEIVED_BIT;
 
-// The codes without an offset are the ATOs above it.
+// The largest offset, 8189; the two ATOs above it are codes.
 const LARGEST_OFFSET: u16 = 0x1FFD;
 
 // The bits of a metric; all 0 if its number was not received.
@@ -34,7 +34,7 @@ fn above_offsets(ato: u16) -> u16
     ato - LARGEST_OFFSET
 }
 
-// The number of a metric's case.
+// The number of a metric's case: R counts 1, and the codes add 1 and 2.
 pub fn case_number(m: u16) -> u8
     ensures value { λ r. ⌜ r ≡ caseNumber (decodeOf m) ⌝ }
 {

@@ -16,7 +16,7 @@ pub struct Cursor {
     pub at: usize,
 }
 
-// What the header of a packet leads to.
+// Where a walk over the blocks stands, or the refusal that stopped it.
 pub enum Start {
     At(Cursor),
     Refused(Refusal),

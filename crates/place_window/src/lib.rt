@@ -19,7 +19,7 @@ pub fn cell_index(p: usize, number: u16) -> usize
 }
 
 // Empties the cells of the other n - 1 numbers that come into the window with number.
-// A number that is the next in order comes alone, as most do: its path has no call.
+// Most numbers are the next in order: n is then 1, and there is no call.
 fn empty_others(cells: &mut [u64], p: usize, number: u16, n: usize)
     requires room { ⌜ cellsOfAPlace * p + cellsOfAPlace ≤ length (now cells) ⌝ }
     requires some { ⌜ 0 < n ⌝ }
@@ -37,7 +37,7 @@ fn empty_others(cells: &mut [u64], p: usize, number: u16, n: usize)
 
 // The place p takes number as the highest of the stream, and n numbers come into its window: their cells are emptied.
 // The number's own cell is written once: it gets word.
-// The others are emptied last on purpose: nothing has to be kept in registers over the calls that empty them.
+// The others are emptied last on purpose, so that no value has to be kept across the calls that empty them.
 pub fn open_window(
     places: &mut [u64],
     cells: &mut [u64],

@@ -64,12 +64,12 @@ pub(super) unsafe fn decoded(metric: u16, mark: *mut u8, offset: *mut u16) -> u8
 
 /// The kind of a metric, its mark and its offset, 0 where the kind has none; without a branch.
 #[inline]
-pub(super) fn chosen(metric: u16) -> (u8, u8, u16) {
+pub(super) fn fields(metric: u16) -> (u8, u8, u16) {
     let received = if metric < R { 0 } else { metric };
     let value = received & OFFSET_MASK;
     let codes = u8::from(value >= OFFSET_OVER_RANGE) + u8::from(value == OFFSET_NO_TIME);
     let offset = if value < OFFSET_OVER_RANGE { value } else { 0 };
-    ((metric >> 15) as u8 + codes, (received >> OFFSET_BITS) as u8 & MARK_MASK, offset)
+    (u8::from(metric >= R) + codes, (received >> OFFSET_BITS) as u8 & MARK_MASK, offset)
 }
 
 #[inline(never)]

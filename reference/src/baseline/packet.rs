@@ -1,6 +1,6 @@
 //! Reader and rewriter calls.
 
-use super::metric::{chosen, decoded};
+use super::metric::{decoded, fields};
 use crate::calls::packet::PacketCalls;
 use crate::refusal::Refusal;
 use std::slice;
@@ -299,7 +299,7 @@ unsafe extern "C" fn decode_metrics(
     let marks = slice::from_raw_parts_mut(marks, n);
     let offsets = slice::from_raw_parts_mut(offsets, n);
     for (((metric, kind), mark), offset) in metrics.zip(kinds).zip(marks).zip(offsets) {
-        (*kind, *mark, *offset) = chosen(u16::from_be_bytes([metric[0], metric[1]]));
+        (*kind, *mark, *offset) = fields(u16::from_be_bytes([metric[0], metric[1]]));
     }
     0
 }

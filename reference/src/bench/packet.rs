@@ -14,7 +14,7 @@ const NO_NUMBER: u8 = Refusal::NoNumber.number();
 const TIMES: usize = 100;
 
 /// How many blocks, and how many metrics in each.
-const SHAPES: [(u32, u16); 3] = [(1, 590), (11, 50), (16, 36)];
+const SHAPES: [(u32, u16); 4] = [(1, 590), (11, 50), (16, 36), (16, 8)];
 
 /// What the calls write to.
 struct Outputs {
@@ -62,53 +62,51 @@ fn shape_rows((blocks, count): (u32, u16)) -> [Row; 4] {
     ]
 }
 
-/// Each block by the cursor, each metric from the part that the cursor gives.
+/// Each metric from the part of its block.
 fn in_one_pass(calls: PacketCalls, packet: &[u8], _: &mut Outputs) -> u64 {
-    let (octets, len) = (packet.as_ptr(), packet.len());
-    let mut at = 0;
     let mut sum = 0;
-    // SAFETY: each slice is passed with its length; all other pointers are to locals of their type.
-    unsafe {
-        (calls.first_block)(octets, len, &mut at);
-        loop {
-            let (mut ssrc, mut begin, mut count, mut metrics_at) = (0, 0, 0, 0);
-            let (s, b, c) = (&mut ssrc, &mut begin, &mut count);
-            if (calls.next_block)(octets, len, &mut at, s, b, c, &mut metrics_at) != 0 {
-                return sum;
-            }
-            let part = &packet[metrics_at..metrics_at + 2 * usize::from(count)];
-            for j in 0..usize::from(count) {
-                let (mut kind, mut mark, mut offset) = (0, 0, 0);
-                let (k, m, o) = (&mut kind, &mut mark, &mut offset);
-                (calls.metric_at)(part.as_ptr(), part.len(), j, k, m, o);
-                sum += u64::from(kind) + u64::from(mark) + u64::from(offset);
-            }
+    each_part(calls, packet, |part| {
+        for j in 0..part.len() / 2 {
+            let (mut kind, mut mark, mut offset) = (0, 0, 0);
+            let (k, m, o) = (&mut kind, &mut mark, &mut offset);
+            // SAFETY: the slice is passed with its length; the pointers are to locals of their type.
+            unsafe { (calls.metric_at)(part.as_ptr(), part.len(), j, k, m, o) };
+            sum += u64::from(kind) + u64::from(mark) + u64::from(offset);
         }
-    }
+    });
+    sum
 }
 
-/// Each block by the cursor, and all metrics of its part by one call.
+/// All metrics of each part by one call. What it writes is not read.
 fn decode_in_one_pass(calls: PacketCalls, packet: &[u8], out: &mut Outputs) -> u64 {
-    let (octets, len) = (packet.as_ptr(), packet.len());
     let Outputs { kinds, marks, offsets, .. } = out;
     let (kinds_len, marks_len, offsets_len) = (kinds.len(), marks.len(), offsets.len());
+    let mut parts = 0;
+    each_part(calls, packet, |part| {
+        let (p, n) = (part.as_ptr(), part.len());
+        let (k, m, o) = (kinds.as_mut_ptr(), marks.as_mut_ptr(), offsets.as_mut_ptr());
+        // SAFETY: each slice is passed with its length.
+        unsafe { (calls.decode_metrics)(p, n, k, kinds_len, m, marks_len, o, offsets_len) };
+        parts += 1;
+    });
+    parts
+}
+
+/// The part of each block, by the cursor.
+#[inline(always)]
+fn each_part(calls: PacketCalls, packet: &[u8], mut visit: impl FnMut(&[u8])) {
+    let (octets, len) = (packet.as_ptr(), packet.len());
     let mut at = 0;
-    let mut blocks = 0;
-    // SAFETY: as above.
-    unsafe {
-        (calls.first_block)(octets, len, &mut at);
-        loop {
-            let (mut ssrc, mut begin, mut count, mut metrics_at) = (0, 0, 0, 0);
-            let (s, b, c) = (&mut ssrc, &mut begin, &mut count);
-            if (calls.next_block)(octets, len, &mut at, s, b, c, &mut metrics_at) != 0 {
-                return blocks;
-            }
-            let part = &packet[metrics_at..metrics_at + 2 * usize::from(count)];
-            let (p, n) = (part.as_ptr(), part.len());
-            let (k, m, o) = (kinds.as_mut_ptr(), marks.as_mut_ptr(), offsets.as_mut_ptr());
-            (calls.decode_metrics)(p, n, k, kinds_len, m, marks_len, o, offsets_len);
-            blocks += 1;
+    // SAFETY: the slice is passed with its length; the pointers are to locals of their type.
+    unsafe { (calls.first_block)(octets, len, &mut at) };
+    loop {
+        let (mut ssrc, mut begin, mut count, mut metrics_at) = (0, 0, 0, 0);
+        let (s, b, c) = (&mut ssrc, &mut begin, &mut count);
+        // SAFETY: as above.
+        if unsafe { (calls.next_block)(octets, len, &mut at, s, b, c, &mut metrics_at) } != 0 {
+            return;
         }
+        visit(&packet[metrics_at..metrics_at + 2 * usize::from(count)]);
     }
 }
 

@@ -2,6 +2,7 @@
 
 use super::packets::{packet_of, put_fault, set_length, small_counts};
 use super::{numbered, output, unwritten, Hex, Mismatch, Tally};
+use crate::calls::metric::OFFSET_BEFORE;
 use crate::calls::packet::{Arrays, PacketCalls};
 use crate::metric::{decode, decode_part};
 use crate::packet::{
@@ -14,6 +15,10 @@ use std::ops::Range;
 
 /// Where num_reports of the first block is.
 const COUNT: Range<usize> = 14..16;
+
+/// The largest offset and the two codes above it, in the 13 lowest bits of a metric.
+const EDGE_OFFSETS: [u16; 3] = [0x1FFD, 0x1FFE, 0x1FFF];
+const OFFSET_BITS: u32 = 13;
 
 /// The octets of the longest packet that a length field can give.
 const LONGEST: usize = 4 * 65_536;
@@ -168,28 +173,28 @@ fn every_metric(calls: &PacketCalls, tally: &mut Tally) -> Result<(), Mismatch> 
     decoding(calls, tally, &part, [65_536; 3])
 }
 
-/// A part of random octets, odd lengths too, into arrays of about the right lengths.
+/// A part of random octets, at any address and of odd lengths too, into arrays of other lengths.
 fn random_part(calls: &PacketCalls, tally: &mut Tally, rng: &mut Rng) -> Result<(), Mismatch> {
     let most = if rng.one_in(20) { 2_000 } else { 80 };
-    let length = rng.below(most) as usize;
-    let mut part: Vec<u8> = (0..length).map(|_| rng.below(256) as u8).collect();
-    for at in (0..length.saturating_sub(1)).step_by(2) {
+    let (start, length) = (rng.below(4) as usize, rng.below(most) as usize);
+    let mut octets: Vec<u8> = (0..start + length).map(|_| rng.below(256) as u8).collect();
+    let part = &mut octets[start..];
+    for metric in part.chunks_exact_mut(2) {
         if rng.one_in(4) {
-            let code = 0x1FFD + rng.below(3) as u16;
-            let bits = code | (rng.below(8) as u16) << 13;
-            part[at..at + 2].copy_from_slice(&bits.to_be_bytes());
+            let bits = rng.pick(&EDGE_OFFSETS) | (rng.below(8) as u16) << OFFSET_BITS;
+            metric.copy_from_slice(&bits.to_be_bytes());
         }
     }
     let n = length / 2;
-    decoding(calls, tally, &part, [n; 3])?;
-    let rooms = [n.saturating_sub(1), n, n + 1, n + 1 + rng.below(40) as usize];
+    decoding(calls, tally, part, [n; 3])?;
+    let rooms = [0, n / 2, n.saturating_sub(1), n, n + 1, n + 1 + rng.below(40) as usize];
     for _ in 0..4 {
-        decoding(calls, tally, &part, [rng.pick(&rooms), rng.pick(&rooms), rng.pick(&rooms)])?;
+        decoding(calls, tally, part, [rng.pick(&rooms), rng.pick(&rooms), rng.pick(&rooms)])?;
     }
     Ok(())
 }
 
-/// Decodes a part into arrays of these lengths; entries behind the metrics stay.
+/// Decodes a part into arrays of these lengths; entries after the metrics stay.
 fn decoding(
     calls: &PacketCalls,
     tally: &mut Tally,
@@ -199,7 +204,10 @@ fn decoding(
     let mut arrays = Arrays {
         kinds: unwritten(rooms[0]),
         marks: unwritten(rooms[1]),
-        offsets: unwritten(rooms[2]).into_iter().map(u16::from).collect(),
+        offsets: unwritten(rooms[2])
+            .iter()
+            .map(|octet| OFFSET_BEFORE ^ u16::from(*octet))
+            .collect(),
     };
     let mut expected = arrays.clone();
     let reference = numbered(decode_part(part, rooms));

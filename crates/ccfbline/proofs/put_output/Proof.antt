@@ -1,4 +1,5 @@
 -- `ccfbline::put_output` meets its contract. Assumes nothing.
+use mathlib.Core.Path.{refl}
 use native.Mathlib.Omega.{arith}
 use Rattle.ccfbline.proofs.Printing.{text-of}
 use borrow.Author.Needs.{needs}
@@ -21,6 +22,9 @@ returns c =
     _ _ _ _ (t .last .1 .1 .0) (t .ensures) (after-input .input .given .1) (omega (arith, t .kept, after-large-buffer .large-buffer .ensures))
     _ _ _ (f .ensures .0) (f .ensures .1)
 
+returns-2 : tie.Need-returns-2
+returns-2 c = refl
+
 pub put-output-spec : {M : Type 1} → statement M
 put-output-spec =
     tie.close
@@ -30,4 +34,4 @@ put-output-spec =
     take-input-requires
     (λ c. search needs) (λ c. search needs) (λ c. search needs) (λ c κs. search needs) (λ c. search needs) (λ c. search needs)
     returns
-    (λ c. search needs))
+    returns-2)

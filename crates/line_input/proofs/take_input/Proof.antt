@@ -68,6 +68,9 @@ returns c =
     let l = turn .before .before .before .before .before .loop in
     last-taken _ _ (l .inv .3) _ _ _ _ _ (turn .take-once .ensures) (c .before .here2 .given .1)
 
+returns-2 : tie.Need-returns-2 Inv-loop μ-loop
+returns-2 c = tt
+
 same-length-4 : tie.Need-same-length-4 Inv-loop μ-loop
 same-length-4 c = lengths (c .before .before .before .before .before .before .before .before) .0
 
@@ -108,7 +111,7 @@ take-input-spec =
     same-length-4
     same-length-5
     same-length-6
-    (λ c. search needs)
+    returns-2
     same-length-7
     same-length-8
     same-length-9
