@@ -26,10 +26,11 @@ pub fn arrive(
     if !sound {
         return Arrival::Refused(Refusal::BadStore);
     }
+    // The search comes before the test of the mark on purpose: its loop then lies within one cache line.
+    let known = places::find(places, ssrc);
     if CONGESTED < mark {
         return Arrival::Refused(Refusal::BadMark);
     }
-    let known = places::find(places, ssrc);
     if let Found::At(p) = known {
         return later_arrivals::resume(places, cells, p, ssrc, number, mark, time);
     }

@@ -42,13 +42,13 @@ returns c =
     (sym (c .before .is-shaped .ensures) ∙ not-true _ (c .if1 .taken))
 
 returns-2 : tie.Need-returns-2
-returns-2 c = arrived-bad-mark _ _ _ _ _ _ (shaped-here (c .before)) (c .if2 .taken)
+returns-2 c = arrived-bad-mark _ _ _ _ _ _ (shaped-here (c .before .before .before)) (c .if2 .taken)
 
 resume-requires : tie.Need-resume-requires
 resume-requires c κs =
     let k = c .before .before .before in
-    let f = k .before .before in
-    let e = f .before .before .before in
+    let f = k .before .before .before in
+    let e = f .before .before in
     let after-slice-known2 = e .before .before .before .before in
     let a = after-slice-known2 .before .before .args in
     ready-found (a .places .now) (a .cells .now) _ _ (is-shaped (a .places .now) (a .cells .now) (shaped-here e)) (sym (f .find .ensures) ∙ k .known .given .1)
@@ -57,10 +57,10 @@ returns-3 : tie.Need-returns-3
 returns-3 c =
     let r = c .before .before .before .before in
     let k = r .before .before .before .before in
-    let f = k .before .before in
-    let t = f .before .before in
+    let t = k .before .before in
+    let f = t .before in
     r .resume .ensures
-    ∙ arrived-known _ _ _ _ _ _ (shaped-here (t .before)) (t .if2 .left) _ (sym (f .find .ensures) ∙ k .known .given .1)
+    ∙ arrived-known _ _ _ _ _ _ (shaped-here (f .before .before)) (t .if2 .left) _ (sym (f .find .ensures) ∙ k .known .given .1)
 
 open-window-requires : tie.Need-open-window-requires
 open-window-requires c κs = (ready-open (c .before .before .before), (omega arith, omega arith))
@@ -72,19 +72,19 @@ returns-4 c =
     let told = filled .before in
     let searched = told .before .before .before in
     let unknown = searched .before .before in
-    let sought = unknown .before .before in
-    let tested = sought .before .before in
+    let tested = unknown .before .before in
+    let sought = tested .before in
     rw (opened .open-window .ensures .0, opened .open-window .ensures .1, filled .filled-word .ensures)
-    (arrived-new _ _ _ _ _ _ (shaped-here (tested .before)) (tested .if2 .left) _ (sym (sought .find .ensures) ∙ unknown .enum-told .given .1)
+    (arrived-new _ _ _ _ _ _ (shaped-here (sought .before .before)) (tested .if2 .left) _ (sym (sought .find .ensures) ∙ unknown .enum-told .given .1)
     (sym (searched .first-free .ensures) ∙ told .before .«open» .given .1) (ready-open told))
 
 returns-5 : tie.Need-returns-5
 returns-5 c =
     let q = c .before .before in
     let n = q .before .before in
-    let f = n .before .before in
-    let t = f .before .before in
-    arrived-full _ _ _ _ _ _ (shaped-here (t .before)) (t .if2 .left) (sym (f .find .ensures) ∙ n .enum-told .given .1)
+    let t = n .before .before in
+    let f = t .before in
+    arrived-full _ _ _ _ _ _ (shaped-here (f .before .before)) (t .if2 .left) (sym (f .find .ensures) ∙ n .enum-told .given .1)
     (sym (q .first-free .ensures) ∙ c .enum-told2 .given .1)
 
 pub arrive-spec : {M : Type 1} → statement M
@@ -93,9 +93,9 @@ arrive-spec =
     (tie.spec
     (λ c κs. search needs) (λ c. search needs) (λ c. search needs)
     returns
-    (λ c. search needs) (λ c. search needs)
+    (λ c κs. search needs) (λ c. search needs) (λ c. search needs)
     returns-2
-    (λ c κs. search needs) (λ c. search needs)
+    (λ c. search needs)
     resume-requires
     (λ c. search needs) (λ c. search needs)
     returns-3
