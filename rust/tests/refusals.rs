@@ -93,6 +93,14 @@ fn by_the_questions() {
 }
 
 #[test]
+fn an_empty_block_needs_no_room() {
+    let octets =
+        *b"\x8b\xcd\x00\x04\x00\x00\x00\xf1\x00\x00\x0a\x01\x00\x05\x00\x00\x00\x05\x00\x00";
+    let block = Packet::read(&octets).and_then(|packet| packet.block(0)).expect("a block");
+    assert_eq!(block.decode_metrics(&mut [], &mut [], &mut []), Ok(0));
+}
+
+#[test]
 fn by_the_decoding_of_a_block() {
     let block = Packet::read(&PACKET).and_then(|packet| packet.block(0)).expect("a block");
     for short in 0..3 {
