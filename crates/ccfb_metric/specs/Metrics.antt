@@ -1,4 +1,4 @@
--- What `ccfb_encode_metric` answers. (`ccfb_decode_metric` answers `caseCalled` of ccfb_calls.)
+-- What `ccfb_encode_metric` answers. (`ccfb_decode_metric` leaves `caseBehind` of ccfb_calls behind its pointers.)
 use Prim.Native.Nat.{ℕ}
 use mathlib.Core.Bool.{Bool, cond}
 use mathlib.Core.List.{[], _∷_}

@@ -1,8 +1,8 @@
-// The calls for C on one metric: from mark and time to 16 bits, and from 16 bits to case, mark and offset.
+// The calls for C on one metric: from mark and time to 16 bits, and from 16 bits to kind, mark and offset.
 ghost use mathlib.Core.Path.{_≡_};
 ghost use mathlib.Core.List.{[], _∷_};
 ghost use Rattle.metric.specs.Metric.{decodeOf};
-ghost use Rattle.ccfb_calls.specs.Called.{called, caseCalled};
+ghost use Rattle.ccfb_calls.specs.Called.{called, caseBehind};
 ghost use Rattle.ccfb_metric.specs.Metrics.{encodeCalled};
 use metric::CONGESTED;
 use metric::Cell;
@@ -34,12 +34,12 @@ pub extern "C" fn ccfb_encode_metric(
     0
 }
 
-// The case of a metric: 0 not received, 1 received with an offset, 2 over range, 3 no time.
+// The case of a metric behind three pointers: its kind, and mark and offset where it has them. Refuses nothing.
 #[no_mangle]
-pub extern "C" fn ccfb_decode_metric(metric: u16, mark: &mut u8, offset: &mut u16) -> u8
-    ensures after { λ r. ⌜
-        called r (now (mark .exit) ∷ now (offset .exit) ∷ [])
-        ≡ caseCalled (decodeOf metric) (now (mark .entry)) (now (offset .entry)) ⌝ }
+pub extern "C" fn ccfb_decode_metric(metric: u16, kind: &mut u8, mark: &mut u8, offset: &mut u16)
+    ensures after { λ _. ⌜
+        now (kind .exit) ∷ now (mark .exit) ∷ now (offset .exit) ∷ []
+        ≡ caseBehind (decodeOf metric) (now (mark .entry)) (now (offset .entry)) ⌝ }
 {
-    ccfb_calls::put_case(metric_decode::decode(metric), mark, offset)
+    *kind = ccfb_calls::put_case(metric_decode::decode(metric), mark, offset);
 }
