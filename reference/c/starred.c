@@ -43,8 +43,8 @@ static const struct encode_case encodes[] = {
     {0x80000000, 0x1FFF}, /* no time: it counts as after RTS */
 };
 
-/* A mark or an offset that the kind does not have stays as it was before the call. */
-enum { MARK_BEFORE = 77, OFFSET_BEFORE = 7777 };
+/* The kind is always written; a mark or an offset that it does not have stays as it was. */
+enum { KIND_BEFORE = 77, MARK_BEFORE = 77, OFFSET_BEFORE = 7777 };
 
 static const struct decode_case decodes[] = {
     {0x7FFF, CCFB_NOT_RECEIVED, MARK_BEFORE, OFFSET_BEFORE},
@@ -91,9 +91,9 @@ int main(void)
         check(refused == 0 && metric == (R | encodes[i].offset), "age", encodes[i].age);
     }
     for (size_t i = 0; i < sizeof decodes / sizeof decodes[0]; i++) {
-        uint8_t mark = MARK_BEFORE;
+        uint8_t kind = KIND_BEFORE, mark = MARK_BEFORE;
         uint16_t offset = OFFSET_BEFORE;
-        uint8_t kind = ccfb_decode_metric(decodes[i].metric, &mark, &offset);
+        ccfb_decode_metric(decodes[i].metric, &kind, &mark, &offset);
         check(kind == decodes[i].kind && mark == decodes[i].mark && offset == decodes[i].offset,
               "metric", decodes[i].metric);
     }

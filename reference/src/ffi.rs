@@ -2,19 +2,31 @@
 //! called in the same way.
 
 /// Makes the table from the C signatures, and the product's own table: the functions of libccfb.a,
-/// if this build has the library and the subject's feature.
+/// if this build has the library and the subject's feature. A function returns the number of its
+/// refusal, if no other type is given.
 macro_rules! c_functions {
-    ($table:ident, $feature:tt: $($field:ident = $symbol:ident($($argument:ty),*);)*) => {
+    (@returned) => { u8 };
+    (@returned $returned:ty) => { $returned };
+    (
+        $table:ident, $feature:tt:
+        $($field:ident = $symbol:ident($($argument:ty),*) $(-> $returned:ty)?;)*
+    ) => {
         #[derive(Clone, Copy)]
         pub struct $table {
-            $(pub $field: unsafe extern "C" fn($($argument),*) -> u8,)*
+            $(
+                pub $field: unsafe extern "C" fn($($argument),*)
+                    -> $crate::ffi::c_functions!(@returned $($returned)?),
+            )*
         }
 
         impl $table {
             #[cfg(all(product, feature = $feature))]
             pub fn product() -> Option<$table> {
                 extern "C" {
-                    $(fn $symbol($(_: $argument),*) -> u8;)*
+                    $(
+                        fn $symbol($(_: $argument),*)
+                            -> $crate::ffi::c_functions!(@returned $($returned)?);
+                    )*
                 }
                 Some($table { $($field: $symbol),* })
             }

@@ -73,6 +73,6 @@ pub(super) fn fields(metric: u16) -> (u8, u8, u16) {
 }
 
 #[inline(never)]
-unsafe extern "C" fn decode(metric: u16, mark: *mut u8, offset: *mut u16) -> u8 {
-    decoded(metric, mark, offset)
+unsafe extern "C" fn decode(metric: u16, kind: *mut u8, mark: *mut u8, offset: *mut u16) {
+    *kind = decoded(metric, mark, offset);
 }

@@ -49,9 +49,9 @@ fn decode_row() -> Row {
         |calls, _| {
             let mut sum = 0u32;
             for &metric in &metrics {
-                let (mut mark, mut offset) = (0, 0);
-                // SAFETY: both pointers are to locals of their type.
-                let kind = unsafe { (calls.decode)(metric, &mut mark, &mut offset) };
+                let (mut kind, mut mark, mut offset) = (0, 0, 0);
+                // SAFETY: the pointers are to locals of their type.
+                unsafe { (calls.decode)(metric, &mut kind, &mut mark, &mut offset) };
                 sum = sum.wrapping_add(u32::from(kind) + u32::from(mark) + u32::from(offset));
             }
             black_box(sum);

@@ -6,7 +6,7 @@ use crate::metric::Metric;
 
 c_functions! { MetricCalls, "metric":
     encode = ccfb_encode_metric(u8, bool, u32, u32, *mut u16);
-    decode = ccfb_decode_metric(u16, *mut u8, *mut u16);
+    decode = ccfb_decode_metric(u16, *mut u8, *mut u8, *mut u16) -> ();
 }
 
 /// The kinds of metric, as the calls number them.
@@ -14,6 +14,9 @@ pub const NOT_RECEIVED: u8 = 0;
 pub const RECEIVED: u8 = 1;
 pub const OVER_RANGE: u8 = 2;
 pub const NO_TIME: u8 = 3;
+
+/// What the kind is before a call that must write it: no kind.
+const KIND_BEFORE: u8 = 0xA5;
 
 /// What mark and offset are before a call that writes them only for some kinds.
 pub const MARK_BEFORE: u8 = 0xA5;
@@ -31,9 +34,9 @@ impl MetricCalls {
     }
 
     pub fn decode(&self, metric: u16) -> Result<Metric, u8> {
-        let (mut mark, mut offset) = (MARK_BEFORE, OFFSET_BEFORE);
-        // SAFETY: both pointers are to locals of their type.
-        let kind = unsafe { (self.decode)(metric, &mut mark, &mut offset) };
+        let (mut kind, mut mark, mut offset) = (KIND_BEFORE, MARK_BEFORE, OFFSET_BEFORE);
+        // SAFETY: the pointers are to locals of their type.
+        unsafe { (self.decode)(metric, &mut kind, &mut mark, &mut offset) };
         metric_of(kind, mark, offset)
     }
 }
