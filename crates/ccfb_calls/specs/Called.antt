@@ -20,10 +20,11 @@ called a b = record { answer = a; behind = b }
 abbrev pub refusedWith : Refusal → List ℕ → Called
 refusedWith e before = called (numberOf e) before
 
--- a case as the answer: its number; mark and offset behind two pointers, as they were where the case has none
+-- what `put_case` makes of a case: its number as the answer; mark and offset behind two pointers, as they were
+-- where the case has none
 abbrev pub caseCalled : Metric → ℕ → ℕ → Called
 caseCalled m mark offset = called (caseNumber m) (markOr m mark ∷ offsetOr m offset ∷ [])
 
--- a case behind three pointers: its number, mark and offset
+-- a case behind three pointers: its number always; mark and offset as they were where the case has none
 abbrev pub caseBehind : Metric → ℕ → ℕ → List ℕ
 caseBehind m mark offset = caseNumber m ∷ markOr m mark ∷ offsetOr m offset ∷ []

@@ -1,5 +1,5 @@
-// What the calls for C share: how the case of a metric is handed over behind pointers. Every call for C answers 0, or
-// the number of its refusal.
+// What the calls for C share: how the case of a metric is handed over behind pointers. Every call for C that can refuse
+// answers 0, or the number of its refusal.
 ghost use mathlib.Core.Path.{_≡_};
 ghost use mathlib.Core.List.{[], _∷_};
 ghost use Rattle.ccfb_calls.specs.Called.{called, caseCalled};

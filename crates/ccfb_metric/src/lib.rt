@@ -34,7 +34,8 @@ pub extern "C" fn ccfb_encode_metric(
     0
 }
 
-// The case of a metric behind three pointers: its kind, and mark and offset where it has them. Refuses nothing.
+// The kind of a metric, and its mark and offset where it has them, each behind a pointer. It
+// refuses nothing, so it answers nothing.
 #[no_mangle]
 pub extern "C" fn ccfb_decode_metric(metric: u16, kind: &mut u8, mark: &mut u8, offset: &mut u16)
     ensures after { λ _. ⌜
