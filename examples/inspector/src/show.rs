@@ -1,6 +1,7 @@
 //! A packet in readable form.
 
-use ccfb::{Block, Mark, Metric, Packet};
+use crate::strip;
+use ccfb::{Mark, Metric, Packet};
 
 /// How many numbers a row shows, a cell each.
 const CELLS_OF_A_ROW: usize = 5;
@@ -15,30 +16,37 @@ pub fn packet(packet: &Packet) -> String {
     }
     for block in packet.blocks() {
         let metrics: Vec<(u16, Metric)> = block.metrics().collect();
-        text += &format!("\n  stream {:08x}, {}{}", block.ssrc(), range(&block), sums(&metrics));
-        for row in metrics.chunks(CELLS_OF_A_ROW) {
-            let cells: String = row.iter().map(|(_, metric)| cell(*metric)).collect();
-            text += &format!("\n    {:>5}:{}", row[0].0, cells.trim_end());
+        let range = range(block.begin(), block.count());
+        let sums = sums(metrics.iter().map(|(_, metric)| *metric));
+        text += &format!("\n  stream {:08x}, {range}{sums}", block.ssrc());
+        for row in strip::rows(&metrics).chain(table(&metrics)) {
+            text += &format!("\n    {row}");
         }
     }
     text
 }
 
-fn range(block: &Block) -> String {
-    let (begin, count) = (block.begin(), block.count());
+fn range(begin: u16, count: u16) -> String {
     match count {
         0 => format!("no number, begin_seq {begin}"),
-        1 => format!("{begin}, 1 number"),
-        _ => format!("{begin} to {}, {count} numbers", begin.wrapping_add(count - 1)),
+        _ => span(begin, begin.wrapping_add(count - 1), count.into()),
+    }
+}
+
+/// So many numbers, the first and the last of them named.
+fn span(first: u16, last: u16, count: usize) -> String {
+    match count {
+        1 => format!("{first}, 1 number"),
+        _ => format!("{first} to {last}, {count} numbers"),
     }
 }
 
 /// How many numbers are missing, and how many carry each mark. Sums of 0 are left out.
-fn sums(metrics: &[(u16, Metric)]) -> String {
+fn sums(metrics: impl Iterator<Item = Metric> + Clone) -> String {
     let marks = [None, Some(Mark::NotEct), Some(Mark::Ect1), Some(Mark::Ect0), Some(Mark::Ce)];
     let sum = |mark: Option<Mark>| {
         let name = mark.map_or("missing".to_string(), |mark| mark.to_string());
-        match metrics.iter().filter(|(_, metric)| metric.mark() == mark).count() {
+        match metrics.clone().filter(|metric| metric.mark() == mark).count() {
             0 => None,
             sum => Some(format!("{sum} {name}")),
         }
@@ -51,14 +59,27 @@ fn sums(metrics: &[(u16, Metric)]) -> String {
     }
 }
 
+/// The rows of the table, each with its first number in front.
+fn table(metrics: &[(u16, Metric)]) -> impl Iterator<Item = String> + '_ {
+    metrics.chunks(CELLS_OF_A_ROW).map(|row| {
+        let cells: String = row.iter().map(|(_, metric)| cell(*metric)).collect();
+        format!("{:>5}:{}", row[0].0, cells.trim_end())
+    })
+}
+
 /// What a metric says, in a cell of fixed width.
 fn cell(metric: Metric) -> String {
     let said = match metric {
         Metric::NotReceived => "missing".to_string(),
-        Metric::Received { offset, .. } => format!("{:.1} ms", f64::from(offset) / 1.024),
+        Metric::Received { offset, .. } => format!("{:.1} ms", milliseconds(offset)),
         Metric::OverRange { .. } => "over range".to_string(),
         Metric::NoTime { .. } => "no time".to_string(),
     };
     let congestion = if metric.mark() == Some(Mark::Ce) { "CE" } else { "" };
     format!("{said:>11} {congestion:<2}")
+}
+
+/// An arrival time offset, which counts 1/1024 s, in ms.
+fn milliseconds(offset: u16) -> f64 {
+    f64::from(offset) / 1.024
 }

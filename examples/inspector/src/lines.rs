@@ -1,0 +1,94 @@
+//! The lines of the input.
+
+use crate::{hex, show, strip};
+use ccfb::{Packet, Refusal};
+use std::io::{self, BufRead, Write};
+
+/// Shows every line that is not empty, under its number from 1, and gives each accepted packet to
+/// `take`. The legend of the strips comes before the first packet that has one.
+pub fn show(
+    input: impl BufRead,
+    mut output: impl Write,
+    mut take: impl FnMut(&Packet),
+) -> io::Result<()> {
+    let mut legend_due = true;
+    for (line, number) in input.split(b'\n').zip(1..) {
+        let line = line?;
+        let line = line.trim_ascii_end();
+        if line.is_empty() {
+            continue;
+        }
+        let mut octets = Vec::new();
+        match packet(line, &mut octets) {
+            Ok(packet) => {
+                if legend_due && has_numbers(&packet) {
+                    writeln!(output, "{}", strip::LEGEND)?;
+                    legend_due = false;
+                }
+                writeln!(output, "line {number}: {}", show::packet(&packet))?;
+                take(&packet);
+            }
+            Err(fault) => writeln!(output, "line {number}: {fault}")?,
+        }
+    }
+    output.flush()
+}
+
+/// The packet of a line, read from its octets. The error says in words why there is none.
+fn packet<'a>(line: &[u8], octets: &'a mut Vec<u8>) -> Result<Packet<'a>, String> {
+    if let Some(refusal) = refused_file(line) {
+        return Err(format!("ccfbline {refusal}"));
+    }
+    *octets = hex::octets(line).map_err(|fault| format!("no hex, {fault}"))?;
+    Packet::read(octets).map_err(|refusal| format!("{} octets, {refusal}", octets.len()))
+}
+
+/// The refusal in the line `refused N`, which `ccfbline` prints for a bad arrival file.
+fn refused_file(line: &[u8]) -> Option<Refusal> {
+    let number = line.strip_prefix(b"refused ")?;
+    Refusal::of_number(std::str::from_utf8(number).ok()?.parse().ok()?)
+}
+
+fn has_numbers(packet: &Packet) -> bool {
+    packet.blocks().any(|block| block.count() > 0)
+}
+
+#[cfg(test)]
+mod tests {
+    use super::*;
+
+    const NO_BLOCK: &str = "8bcd0002000000f100050000";
+    const ONE_LOST: &str = "8bcd0005000000f10000000700090001000000000005 0000";
+
+    fn shown(input: &str) -> (String, usize) {
+        let (mut output, mut taken) = (Vec::new(), 0);
+        show(input.as_bytes(), &mut output, |_| taken += 1).expect("memory does not fail");
+        (String::from_utf8(output).expect("plain text"), taken)
+    }
+
+    #[test]
+    fn the_legend_comes_once_before_the_first_strip() {
+        let (text, taken) = shown(&format!("{NO_BLOCK}\n{ONE_LOST}\n{ONE_LOST}\n"));
+        let starts: Vec<&str> = text.lines().map(|line| line.split(' ').next().unwrap()).collect();
+        let legends: Vec<usize> = (0..starts.len()).filter(|&at| starts[at] == "strips:").collect();
+        assert_eq!(legends, [1]);
+        assert_eq!(taken, 3);
+    }
+
+    #[test]
+    fn no_strip_no_legend() {
+        let (text, taken) = shown(&format!("{NO_BLOCK}\n"));
+        assert_eq!(text, "line 1: 12 octets from 000000f1, RTS 00050000 (5.000 s), no block\n");
+        assert_eq!(taken, 1);
+    }
+
+    #[test]
+    fn a_refused_packet_is_not_taken() {
+        let (text, taken) = shown("8bcd\nrefused 13\nrefused 99\n");
+        assert_eq!(taken, 0);
+        let lines: Vec<&str> = text.lines().collect();
+        assert_eq!(lines[0], "line 1: 2 octets, refused 21: packet under 12 octets");
+        assert!(lines[1].starts_with("line 2: ccfbline refused 13: "));
+        assert_eq!(lines[2], "line 3: no hex, 'r' in column 1");
+    }
+}
