@@ -34,7 +34,7 @@ fn range(begin: u16, count: u16) -> String {
 }
 
 /// So many numbers, the first and the last of them named.
-fn span(first: u16, last: u16, count: usize) -> String {
+pub fn span(first: u16, last: u16, count: usize) -> String {
     match count {
         1 => format!("{first}, 1 number"),
         _ => format!("{first} to {last}, {count} numbers"),
@@ -42,7 +42,7 @@ fn span(first: u16, last: u16, count: usize) -> String {
 }
 
 /// How many numbers are missing, and how many carry each mark. Sums of 0 are left out.
-fn sums(metrics: impl Iterator<Item = Metric> + Clone) -> String {
+pub fn sums(metrics: impl Iterator<Item = Metric> + Clone) -> String {
     let marks = [None, Some(Mark::NotEct), Some(Mark::Ect1), Some(Mark::Ect0), Some(Mark::Ce)];
     let sum = |mark: Option<Mark>| {
         let name = mark.map_or("missing".to_string(), |mark| mark.to_string());
@@ -80,6 +80,6 @@ fn cell(metric: Metric) -> String {
 }
 
 /// An arrival time offset, which counts 1/1024 s, in ms.
-fn milliseconds(offset: u16) -> f64 {
+pub fn milliseconds(offset: u16) -> f64 {
     f64::from(offset) / 1.024
 }
