@@ -51,7 +51,7 @@ fn show_and_draw(file: &Path) -> io::Result<()> {
         .map_err(|error| io::Error::other(format!("{}: {error}", file.display())))
 }
 
-/// Drops what nobody reads.
+/// Passes octets on until their reader stops, and drops the rest.
 struct WhileRead<W>(W);
 
 impl<W: Write> Write for WhileRead<W> {

@@ -10,11 +10,11 @@ usage: inspector [--svg FILE] <LINES
 Reads lines of hex from standard input, a CCFB packet each, and shows each packet in readable
 form, or why it is refused.
 
-  --svg FILE  also draws the packets into FILE: the delay before RTS over the sequence number, with
+  --svg FILE  also draw the packets into FILE: the delay before RTS over the sequence number, with
               losses and CE marks, one panel for each stream
-  --help      prints this text
+  --help      print this text
 
-Exit status: 0, 1 if standard input, standard output or FILE fails, 2 if called in another way.
+Exit status: 0; 1 if standard input, standard output or FILE fails; 2 if an argument is wrong.
 ";
 
 /// What the program is asked to do.
