@@ -1,5 +1,5 @@
--- When a file gives which refusal, 11 to 14, or its records: one case for each rule, and exactly one applies
--- to any octets.
+-- Rules: "Arrival file", "Refusals". When a file gives which refusal, 11 to 14, or its records: one
+-- case for each rule, and exactly one applies to any octets.
 use Prim.Native.Nat.{ℕ, _+_, _*_, _<_, _≤_}
 use mathlib.Core.Path.{_≡_}
 use mathlib.Core.Logic.{_≢_}
@@ -16,7 +16,8 @@ use Rattle.refusal.specs.declared.Refusal.the-variants.{BadFileMark, BadFileVer
 abbrev pub magic : List ℕ
 magic = 0x41 ∷ 0x52 ∷ 0x4C ∷ []
 
--- a record at the front of some octets has a mark above 3, a flag above 1, or flag 0 and a time that is not 0
+-- refusal 14, of the record at the front of some octets: a mark of 4 or more, a flag of 2 or more,
+-- or flag 0 beside a time
 pub data FaultyRecord (t : List ℕ) : Type 0 where
   mark : congested < getD t 6 0 → FaultyRecord t
   flag : 1 < getD t 7 0 → FaultyRecord t

@@ -1,4 +1,5 @@
--- The arrival file, which ccfbline reads. Any octets give the records of the file, or its first fault.
+-- Rules: "Arrival file". Any octets give the records of the file, or its first fault (rule "First
+-- fault").
 --   header    3 octets `ARL`, 2 octets version 1, big-endian
 --   records   12 octets each (arrival_record/specs/Record.antt)
 use Prim.Native.Nat.{ℕ, zero, suc, _/_}

@@ -1,5 +1,5 @@
--- An arrival file that comes in pieces, cut anywhere. Each record is taken once its last octet is there, and
--- `step` says what is done with it.
+-- Rules: "Arrival file", of a file that comes in pieces, cut anywhere. Each record is taken once
+-- its last octet is there, and `step` says what is done with it.
 use Prim.Native.Nat.{ℕ, zero, suc, _/_}
 use mathlib.Core.Bool.{cond}
 use mathlib.Core.List.{List, [], _++_, foldl}

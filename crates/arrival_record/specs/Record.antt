@@ -1,4 +1,4 @@
--- A record of the arrival file, in 12 octets. Numbers are big-endian.
+-- Rules: "Arrival file". A record, in 12 octets (rule "Record"). Numbers are big-endian.
 --   4 octets SSRC, 2 octets sequence number, 1 octet ECN mark, 1 octet flag, 4 octets time
 -- The flag is 1 where the time is known; where it is not, flag and time are 0.
 use Prim.Native.Nat.{ℕ}

@@ -1,4 +1,5 @@
--- An arrival, as its answer and the store that it leaves, of any lent content: refusals 4, 1, then 3 or 2.
+-- Rules: "Arrivals and the window", "Order of refusals". An arrival, as its answer and the store
+-- that it leaves, of any lent content. Refusals 4, 1; then 3 if the stream is held, else 2.
 use Prim.Native.Nat.{ℕ}
 use mathlib.Core.Bool.{cond}
 use mathlib.Core.List.{List}

@@ -1,4 +1,4 @@
--- The reader's answer about block k, from 0, of any octets; 29 where there is none.
+-- Rules: "Reader". The answer about block k of any octets (rule "Block k"); 29 where there is none.
 use Prim.Native.Nat.{ℕ, zero, suc}
 use mathlib.Core.List.{List, [], _∷_}
 use Rattle.walk.specs.Walk.{Walked, walked, stopped, walkOf}

@@ -1,5 +1,5 @@
--- The packets that answer requests: each block of the plan with the metrics of its numbers, and packets back
--- to back.
+-- Rules: "Writer". The packets that answer requests: each block of the plan with the metrics of its
+-- numbers (rule "Metrics"), and packets back to back (rule "Back to back").
 use Prim.Native.Nat.{ℕ}
 use mathlib.Core.List.{List, [], _∷_, _++_, map}
 use Rattle.lists.specs.declared.Found.{Found}

@@ -1,4 +1,5 @@
--- The octets at an offset of a packet s that a call has given: they are the part that holds the metrics of block k.
+-- Rules: "Reader", "Walk". The octets at an offset of a packet s that a call has given: they are
+-- the part with the metrics of block k (rules "Part", "Metric of a part").
 use Prim.Native.Nat.{ℕ, _+_, _*_, _%_, _<_, _≤_}
 use mathlib.Core.Path.{_≡_}
 use mathlib.Core.List.{List, [], _∷_}

@@ -1,6 +1,7 @@
--- A caller's walk over the blocks of a packet s, which may be any octets: `ccfb_first_block`, then `ccfb_next_block` as
--- long as it answers 0, each call at the offset that the call before left. It is defined by what the two calls answer,
--- as their contracts say it. The theorems say that the walk gives the reader's blocks.
+-- Rules: "Walk". A caller's walk over the blocks of a packet s, which may be any octets:
+-- `ccfb_first_block`, then `ccfb_next_block` as long as it answers 0, each call at the offset that
+-- the call before left. It is defined by what the two calls answer, as their contracts say it. The
+-- theorems are the rule "Same as the reader".
 use Prim.Native.Nat.{ℕ, suc, _<_}
 use mathlib.Core.Path.{_≡_}
 use mathlib.Core.List.{List, [], _∷_}

@@ -1,5 +1,5 @@
--- What the call for C that records an arrival answers, 0 or the number of a refusal, and what it leaves in the
--- store.
+-- Rules: "Order of refusals". What the call for C that records an arrival answers, 0 or the number
+-- of a refusal, and what it leaves in the store.
 use Prim.Native.Nat.{ℕ}
 use Rattle.refusal.specs.Numbers.{numberOf}
 use Rattle.places.specs.After.{StoreAfter, storeAfter}

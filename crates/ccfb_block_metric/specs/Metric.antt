@@ -1,5 +1,5 @@
--- What `ccfb_metric` answers and leaves behind its pointers: from the reader's answer, and from what stood
--- there before.
+-- Rules: "Reader", rule "Metric j". What `ccfb_metric` answers and leaves behind its pointers: from
+-- the reader's answer, and from what stood there before.
 use Prim.Native.Nat.{ℕ}
 use mathlib.Core.List.{[], _∷_}
 use Rattle.reports.specs.declared.MetricAnswer.{MetricAnswer}

@@ -1,5 +1,6 @@
--- What a call from C answers, and what it leaves behind its pointers to numbers. A contract says that the
--- answer and the numbers after the call are what a definition makes of the numbers before it.
+-- Rules: "Refusals", rule "Refused calls". What a call from C answers, and what it leaves behind
+-- its pointers to numbers. A contract says that the answer and the numbers after the call are what
+-- a definition makes of the numbers before it.
 use Prim.Native.Nat.{ℕ}
 use mathlib.Core.List.{List, _∷_, []}
 use Rattle.refusal.specs.Numbers.{numberOf}

@@ -1,4 +1,5 @@
--- What `ccfb_decode_metrics` answers and leaves: 0 or the refusal's number, and the three arrays.
+-- Rules: "Decoding all metrics". What `ccfb_decode_metrics` answers and leaves: 0 or the refusal's
+-- number, and the three arrays.
 use Prim.Native.Nat.{ℕ}
 use Rattle.refusal.specs.Numbers.{numberOf}
 use Rattle.metric_arrays.specs.Arrays.{Arrays, ArraysAfter}

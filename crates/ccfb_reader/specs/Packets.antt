@@ -1,5 +1,5 @@
--- What the calls for C that read a packet answer and leave behind their pointers: from the reader's answer,
--- and from what stood there before.
+-- Rules: "Reader". What the calls for C that read a packet answer and leave behind their pointers:
+-- from the reader's answer, and from what stood there before.
 use Prim.Native.Nat.{ℕ}
 use mathlib.Core.List.{List, [], _∷_}
 use Rattle.reader.specs.declared.Reading.{Reading}

@@ -1,4 +1,5 @@
--- What `ccfb_block_metrics` answers and leaves behind its pointers: from the reader's answer.
+-- Rules: "Reader", rule "Part". What `ccfb_block_metrics` answers and leaves behind its pointers:
+-- from the reader's answer.
 use Prim.Native.Nat.{_*_}
 use mathlib.Core.List.{[], _∷_}
 use Rattle.refusal.specs.Numbers.{numberOf}

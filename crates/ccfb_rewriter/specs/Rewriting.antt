@@ -1,5 +1,5 @@
--- What `ccfb_rewrite` answers and leaves: from the rewriter's answer and output, and from what stood there
--- before.
+-- Rules: "Rewriter". What `ccfb_rewrite` answers and leaves: from the rewriter's answer and output,
+-- and from what stood there before.
 use Prim.Native.Nat.{ℕ}
 use mathlib.Core.List.{List}
 use Rattle.refusal.specs.Numbers.{numberOf}

@@ -1,5 +1,5 @@
--- What the calls for C that walk over a packet answer and leave behind their pointers: from the walk's
--- answer, and from what stood there before.
+-- Rules: "Walk". What the calls for C that walk over a packet answer and leave behind their
+-- pointers: from the walk's answer, and from what stood there before.
 use Prim.Native.Nat.{ℕ}
 use mathlib.Core.List.{List, [], _∷_}
 use Rattle.packet_header.specs.declared.Start.{Start}

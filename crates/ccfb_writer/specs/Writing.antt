@@ -1,5 +1,5 @@
--- What `ccfb_write` leaves with its caller: 0 and both counts, or a refusal number and the counts as they
--- were.
+-- Rules: "Writer", rule "Result". What `ccfb_write` leaves with its caller: 0 and both counts, or a
+-- refusal number and the counts as they were.
 use Prim.Native.Nat.{ℕ}
 use mathlib.Core.List.{List}
 use Rattle.refusal.specs.Numbers.{numberOf}

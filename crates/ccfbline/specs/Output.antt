@@ -1,4 +1,4 @@
--- What ccfbline writes for its input, before it is printed.
+-- Rules: "ccfbline". What the program writes for its input, before it is printed.
 use Prim.Native.Nat.{ℕ, _≤_}
 use mathlib.Core.Path.{_≡_}
 use mathlib.Core.List.{List, [], flatten}

@@ -1,4 +1,4 @@
--- The metric of a number of the window of a place, at RTS.
+-- Rules: "Metric". The metric of a number of the window of a place, at RTS.
 use Prim.Native.Nat.{ℕ}
 use mathlib.Core.List.{List}
 use Rattle.metric.specs.Metric.{encodeOf}

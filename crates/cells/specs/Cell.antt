@@ -1,5 +1,5 @@
--- How a cell's 64-bit word stores what arrived, and how the next copy changes it. Any word reads as empty or
--- filled.
+-- Rules: "Store words", "Copies". How a cell's 64-bit word stores what arrived (rule "Cell word"),
+-- and how the next copy changes it. Any word reads as empty or filled.
 --   word % 16    0-7 empty, 8-11 received without a time, 12-15 received at a known time
 --   word % 4     the ECN mark, if received
 --   word / 16    the arrival time, if known
@@ -36,11 +36,13 @@ abbrev pub filledWord : ℕ → Time → ℕ
 filledWord mark Unknown = leastFilled + mark
 filledWord mark (Known t) = leastTimed + mark + kinds * t
 
--- the mark of a filled cell after a copy: ECN-CE if the copy carries it, else as it was
+-- rule "ECN-CE of any copy": the mark of a filled cell after a copy is ECN-CE if the copy carries
+-- it, else as it was
 unfoldable pub foldedMark : ℕ → ℕ → ℕ
 foldedMark held copy = cond (eqb copy congested) congested held
 
--- an arrival at an empty cell fills it; at a filled cell it is a copy: the time stays, and the mark is folded
+-- an empty cell is filled; an arrival whose cell is filled is a copy: rule "First copy", and the
+-- mark is folded
 unfoldable pub wordAfter : ℕ → Time → ℕ → ℕ
 wordAfter mark time word =
     cond (ltb (word % kinds) leastFilled) (filledWord mark time) (word / 4 * 4 + foldedMark (word % 4) mark)

@@ -1,5 +1,5 @@
--- A cutting of a list of requests into packets, and the packet rules that it must meet: what a customer must
--- believe of how feedback is split. No algorithm stands here.
+-- Rules: "Packet rules", "Cuttings". How requests may be split into packets: what a customer must
+-- believe of it. No algorithm stands here.
 use mathlib.Core.Path.{_≡_}
 use mathlib.Core.Logic.{_≢_}
 use mathlib.Core.Bool.{cond}
@@ -19,11 +19,11 @@ pub record CutBlock : Type 0 where
   pub begin : ℕ
   pub count : ℕ
 
--- a packet is a list of blocks
+-- the blocks of a packet, in order
 abbrev pub CutPacket : Type 0
 CutPacket = List CutBlock
 
--- a cutting is a list of packets, of any length
+-- rule "Cutting": packets, as many as there are
 abbrev pub Cutting : Type 0
 Cutting = List CutPacket
 
@@ -49,7 +49,7 @@ numbersReported (b ∷ bs) = numbersFrom (b .begin) (b .count) ++ numbersReporte
 abbrev pub counts : CutPacket → List ℕ
 counts p = map (λ (b : CutBlock). b .count) p
 
--- a packet's octets are a multiple of 4, so the limit is rounded down to one
+-- packets are whole 32-bit words, so the limit is cut to whole words
 abbrev pub roundedDown : ℕ → ℕ
 roundedDown limit = limit / 4 * 4
 
@@ -76,46 +76,46 @@ streamOf [] i = 0
 streamOf (r ∷ rs) zero = r .ssrc
 streamOf (r ∷ rs) (suc i) = streamOf rs i
 
--- no stream is named by two requests
+-- rule "One request a stream": no two requests have one SSRC
 abbrev pub DifferentStreams : List Request → Type 0
 DifferentStreams [] = Unit {0}
 DifferentStreams (r ∷ rs) = All (λ q. r .ssrc ≢ q .ssrc) rs × DifferentStreams rs
 
 -- ---- the packet rules
 
--- no block of a later request stands before one of an earlier request
+-- rule "Order of requests": after a block come only blocks of its request and of later ones
 abbrev pub InOrder : List CutBlock → Type 0
 InOrder [] = Unit {0}
 InOrder (b ∷ bs) = All (λ d. b .request ≤ d .request) bs × InOrder bs
 
--- no stream has two blocks in one packet
+-- rule "No stream twice": a packet has at most one block of a stream
 abbrev pub NoStreamTwice : List Request → CutPacket → Type 0
 NoStreamTwice rs [] = Unit {0}
 NoStreamTwice rs (b ∷ p) = All (λ d. streamOf rs (b .request) ≢ streamOf rs (d .request)) p × NoStreamTwice rs p
 
 -- `bs`, all blocks of one request, in order; `a` is the request as one block
 pub record RangeRules (a : CutBlock) (bs : List CutBlock) : Type 0 where
-  -- each number of the range is reported once, in rising order starting at begin, and no number outside it
+  -- rule "Each number once": the numbers of the range from begin on, rising, and no others
   pub range : numbersReported bs ≡ numbersFrom (a .begin) (a .count)
-  -- a request of count 0 makes one empty block, with the request's begin
+  -- rule "Empty blocks": of a request with count 0, just one block with its begin
   pub empty : a .count ≡ 0 → bs ≡ a ∷ []
-  -- no other block is empty
+  -- and every other block reports a number
   pub filled : 0 < a .count → All (λ b. 0 < b .count) bs
 
 -- a packet by itself
 pub record PacketRules (limit : ℕ) (rs : List Request) (p : CutPacket) : Type 0 where
-  -- it has a block
+  -- rule "No empty packet": it has a block
   pub some : 0 < length p
-  -- no stream has two blocks in it
+  -- rule "No stream twice"
   pub once : NoStreamTwice rs p
-  -- it is not over the limit
+  -- rule "Within the limit": with its 12 octets and its blocks
   pub fits : packetOctets (counts p) ≤ roundedDown limit
 
 -- c is a cutting of the requests under the packet rules
 pub record Cuts (limit : ℕ) (rs : List Request) (c : Cutting) : Type 0 where
   -- each block is of a request of the list
   pub known : All (λ b. b .request < length rs) (allBlocks c)
-  -- the requests keep their order through all packets
+  -- rule "Order of requests", over all packets
   pub ordered : InOrder (allBlocks c)
   -- each request is reported, and nothing else
   pub ranges : All (λ a. RangeRules a (blocksOf (a .request) (allBlocks c))) (wholeBlocks 0 rs)

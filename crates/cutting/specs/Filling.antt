@@ -1,6 +1,6 @@
--- How full the packets of a cutting are: the number or the empty block that a packet begins with did not fit in
--- the packet before. This is no packet rule, and no algorithm stands here: it says of any cutting whether it is
--- filled as ours.
+-- Rules: "How packets are filled". How full the packets of a cutting are: the number or the empty
+-- block that a packet begins with did not fit in the packet before. This is no packet rule, and no
+-- algorithm stands here: it says of any cutting whether it is filled as ours.
 use mathlib.Core.Bool.{cond}
 use mathlib.Core.List.{[], _∷_}
 use Prim.Native.Nat.{ℕ, suc, _<_}
@@ -29,7 +29,7 @@ abbrev pub NextDoesNotFit : ℕ → CutPacket → CutPacket → Type 0
 NextDoesNotFit limit p [] = ⊥
 NextDoesNotFit limit p (b ∷ q) = roundedDown limit < packetOctets (counts (withNext p b))
 
--- each packet but the last is filled up
+-- rule "Filled up", of each packet but the last
 abbrev pub FilledUp : ℕ → Cutting → Type 0
 FilledUp limit [] = Unit {0}
 FilledUp limit (p ∷ []) = Unit {0}

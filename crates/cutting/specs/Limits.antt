@@ -1,5 +1,5 @@
--- What a caller may ask of the writer: a limit on the octets of a packet from 24 to 9,000, and at most 16
--- requests.
+-- Rules: "Writer", "Requests". What a caller may ask of the writer: a limit on the octets of a
+-- packet from 24 to 9,000 (rule "Limit as given"), and at most 16 requests.
 use Prim.Native.Nat.{ℕ}
 
 -- the least limit holds a packet that reports a number

@@ -1,5 +1,5 @@
--- The plan, how our writer cuts: each packet takes the next numbers, or the next empty block, as long as the
--- room left holds one more.
+-- Rules: "How packets are filled". The plan, how our writer cuts: it closes a packet only when the
+-- next number, or the next empty block, does not fit.
 use mathlib.Core.Bool.{cond}
 use mathlib.Core.List.{List, [], _∷_}
 use Prim.Native.Nat.{ℕ, zero, suc, _+_, _-_, _*_, _/_}

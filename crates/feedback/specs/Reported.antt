@@ -1,5 +1,6 @@
--- What a reader of written feedback is told of each number, rule by rule, by the accepted arrivals of its stream
--- alone. An entry is an accepted arrival with its full number; they stand in the order of the calls.
+-- Rules: "What a store means", "Copies", "Metric". What a reader of written feedback is told of
+-- each number, rule by rule, by the accepted arrivals of its stream alone. An entry is an accepted
+-- arrival with its full number; they stand in the order of the calls.
 use Prim.Native.Nat.{ℕ, _+_, _/_, _%_, _≤_, _<_}
 use mathlib.Core.Path.{_≡_}
 use mathlib.Core.List.{List, _∷_, _++_, List·Memᴰ}
@@ -23,7 +24,8 @@ use Rattle.reports.specs.declared.MetricAnswer.the-variants as asked
 abbrev pub NoneHad : List Entry → ℕ → Type 0
 NoneHad es n = (e : Entry) → List·Memᴰ e es → e .full ≡ n → ⊥
 
--- e is the first accepted arrival, in the order of the calls, that had the full number n
+-- rule "First copy": e is the first accepted arrival, in the order of the calls, that had the full
+-- number n
 pub record First (es : List Entry) (n : ℕ) (e : Entry) : Type 0 where
   pub before : List Entry
   pub after : List Entry
@@ -37,8 +39,8 @@ pub record CarriedCE (es : List Entry) (n : ℕ) (d : Entry) : Type 0 where
   pub full : d .full ≡ n
   pub mark : d .mark ≡ congested
 
--- the mark of the full number n, where e is the first that had it: ECN-CE if any of them carried it, else the mark
--- of the first
+-- rule "ECN-CE of any copy": the mark of the full number n, where e is the first that had it, is
+-- ECN-CE if any of them carried it, else the mark of the first
 pub data MarkOf (es : List Entry) (n : ℕ) (e : Entry) : ℕ → Type 0 where
   carried : (d : Entry) → CarriedCE es n d → MarkOf es n e congested
   firsts : ((d : Entry) → CarriedCE es n d → ⊥) → MarkOf es n e (e .mark)

@@ -1,5 +1,5 @@
--- From calls to octets: what a reader of written feedback sees of each number, by the accepted arrivals of
--- its stream.
+-- Rules: "What a store means". From calls to octets: what a reader of written feedback sees of each
+-- number, by the accepted arrivals of its stream.
 use Prim.Native.Nat.{ℕ, _+_, _-_, _%_, _≤_, _<_}
 use mathlib.Core.Path.{_≡_}
 use mathlib.Core.List.{List}
@@ -50,7 +50,7 @@ SeenByHistory history rts s =
     → reportedOf (located (walkOf s) k) s j
     ≡ asked.Reported ((b .«begin_seq» + j) % sequenceNumbers) (seenBy (history (b .ssrc)) rts ((b .«begin_seq» + j) % sequenceNumbers))
 
--- the accepted arrivals of a stream since it took its place, where the calls cs were made to a store st
+-- rule "History of a stream", where the calls cs were made to a store st
 abbrev pub historyOf : Store → List Call → ℕ → List Accepted
 historyOf st cs ssrc = acceptedOf ssrc cs (storeAnswers st cs)
 
@@ -60,7 +60,7 @@ pub record Feedback (st : Store) (cs : List Call) (sender rts limit : ℕ) (rs :
   -- the reader accepts the packets, and they report each number of each range once and nothing else (field
   -- `cuts`)
   pub report : Report (storeRun st cs .places) (storeRun st cs .cells) sender rts limit rs entry exit p o
-  -- each number is seen as the accepted arrivals of its stream since it took its place say
+  -- each number is seen as the history of its stream says
   pub seen : All (SeenByHistory (historyOf st cs) rts) (packetsIn (take o exit))
   -- each stands for a full number of its stream's window
   pub full : All

@@ -1,4 +1,5 @@
--- What two stores say of one stream, whatever else they hold.
+-- Rules: "What a store means", rule "Streams do not mix". What two stores say of one stream,
+-- whatever else they hold.
 use Prim.Native.Nat.{ℕ}
 use mathlib.Core.Path.{_≡_}
 use Rattle.places.specs.Held.{Unheld, HeldAt}

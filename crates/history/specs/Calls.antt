@@ -1,5 +1,5 @@
--- A history: the calls that change a store, in the order in which they are made, and the answers to them; and
--- the accepted arrivals of a stream, as the answers say.
+-- Rules: "What a store means". The calls that change a store, in the order in which they are made,
+-- and the answers to them; and the accepted arrivals of a stream, as the answers say.
 use Prim.Native.Nat.{ℕ, _<_, _^_}
 use mathlib.Core.Bool.{Bool, true, false, cond, _&&_}
 use mathlib.Core.List.{List, [], _∷_, _++_}
@@ -78,8 +78,7 @@ heardAll ssrc past [] xs = past
 heardAll ssrc past (c ∷ cs) [] = past
 heardAll ssrc past (c ∷ cs) (x ∷ xs) = heardAll ssrc (heard ssrc past c (isDone x)) cs xs
 
--- the accepted arrivals of a stream since it took its place, in the order of the calls: of all calls to a
--- fresh store, and the answers to them
+-- rule "History of a stream", from all calls to a fresh store, and the answers to them
 abbrev pub acceptedOf : ℕ → List Call → List CallAnswer → List Accepted
 acceptedOf ssrc cs xs = heardAll ssrc [] cs xs
 

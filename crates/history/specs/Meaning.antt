@@ -1,5 +1,5 @@
--- What the cells of a stream mean, by its accepted arrivals alone. Each arrival has a full number: its
--- sequence number, counted on without wrapping.
+-- Rules: "What a store means". What the cells of a stream mean, by its accepted arrivals alone.
+-- Each arrival has a full number: its sequence number, but without wrapping.
 use Prim.Native.Nat.{ℕ, _+_, _-_, _%_, _≤_, _<_, max}
 use mathlib.Core.Bool.{Bool, false, cond, _||_}
 use mathlib.Core.Path.{_≡_}
@@ -27,7 +27,7 @@ notBehind f = leb f farthestAhead
 abbrev pub countedOn : ℕ → ℕ → ℕ
 countedOn top f = cond (notBehind f) (top + f) (top + f - sequenceNumbers)
 
--- the full number of an arrival, by the highest full number before it
+-- rule "Full number": that of an arrival, by the highest full number before it
 unfoldable pub fullOf : ℕ → ℕ → ℕ
 fullOf top number = countedOn top (distanceOf number (top % sequenceNumbers))
 
@@ -64,8 +64,8 @@ abbrev pub anyCE : List Entry → Bool
 anyCE [] = false
 anyCE (e ∷ es) = eqb (e .mark) congested || anyCE es
 
--- filled exactly if there is one copy or more, with the first one's time, and ECN-CE if any
--- carried it, else the first one's mark
+-- rule "Filled", of the copies of a number: filled if there is one, with the first one's time, and
+-- ECN-CE if any carried it, else the first one's mark
 abbrev pub cellOf : List Entry → Cell
 cellOf [] = Empty
 cellOf (e ∷ es) = Filled (cond (anyCE (e ∷ es)) congested (e .mark)) (e .time)
@@ -76,7 +76,7 @@ cellBy es n = cellOf (copiesOf es n)
 
 -- the same as `cellBy`, rule by rule
 pub record AsArrivals (c : Cell) (es : List Entry) (n : ℕ) : Type 0 where
-  -- filled exactly if an accepted arrival had the full number
+  -- filled exactly if one of them had the full number
   pub filled : (e : Entry) → List·Memᴰ e es → e .full ≡ n → c ≡ Empty → ⊥
   pub only : (mark : ℕ) (time : Time) → c ≡ Filled mark time → (e : Entry) × (List·Memᴰ e es × (e .full ≡ n))
   -- with the first one's time

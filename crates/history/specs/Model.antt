@@ -1,5 +1,6 @@
--- The meaning as a machine of its own, without cells and rings: each place is free, or holds a stream with
--- its SSRC, its highest full number and its accepted arrivals.
+-- Rules: "What a store means". The meaning as a machine of its own, without cells and rings: each
+-- place is free, or holds a stream with its SSRC, its highest full number and its accepted
+-- arrivals.
 use Prim.Native.Nat.{ℕ, _+_, _%_, max}
 use mathlib.Core.Bool.{Bool, true, false, cond}
 use mathlib.Core.List.{List, [], _∷_, _++_}
@@ -67,7 +68,7 @@ addedAt ps k ssrc full mark time = record {
   places = set ps k (stream ssrc (max (highestIn (at ps k)) full) (entriesIn (at ps k) ++ (record { full = full; mark = mark; time = time } ∷ [])));
 }
 
--- too old: the full number is below the window of the 2,048 highest
+-- rule "Too old": the full number is below the window of the 2,048 highest
 abbrev pub isTooOld : ℕ → ℕ → Bool
 isTooOld top full = leb (full + cellsOfAPlace) top
 

@@ -1,4 +1,5 @@
--- A store reads as the machine says: place by place, and each cell of each window.
+-- Rules: "What a store means". A store reads as the machine says: place by place, and each cell of
+-- each window.
 use Prim.Native.Nat.{ℕ, _+_, _%_, _≤_, _<_}
 use mathlib.Core.Path.{_≡_}
 use mathlib.Core.List.{List}
@@ -34,7 +35,7 @@ pub record Reads (st : Store) (ps : List Place) : Type 0 where
   pub count : length ps ≡ length (st .places)
   pub each : (k : ℕ) → ReadsAt (st .cells) k (placeAt (st .places) k) (at ps k)
 
--- a store of 1 to 16 places, each of them free
+-- rule "Fresh store": of the right shape, and every place is free
 pub record Fresh (st : Store) : Type 0 where
   pub shape : Shaped (st .places) (st .cells)
   pub empty : (k : ℕ) → placeAt (st .places) k ≡ Free

@@ -1,5 +1,6 @@
--- When each call on the store gives which answer, one case for each rule, for a store of any lent content. Of
--- several refusals that apply the first is given, in the order that stands at each call.
+-- Rules: "Refusals", "Order of refusals". When each call on the store gives which answer, one case
+-- for each rule, for a store of any lent content. Of several refusals that apply the first is
+-- given, in the order that stands at each call.
 use Prim.Native.Nat.{ℕ, _≤_, _<_}
 use mathlib.Core.Path.{_≡_}
 use mathlib.Core.List.{List}
@@ -26,7 +27,7 @@ pub record Old (high number : ℕ) : Type 0 where
   pub notAhead : 0 < distanceOf number high → farthestAhead < distanceOf number high
   pub below : cellsOfAPlace ≤ distanceOf high number
 
--- an arrival: 4, 1, then 3 or 2. A refused one leaves the store as it was
+-- an arrival: 4, 1; 3 if the stream is held, else 2. A refused one leaves the store as it was
 pub data ArrivalGiven (places cells : List ℕ) (ssrc number mark : ℕ) : StoreAfter Arrival → Type 0 where
   badStore : Misshapen places cells → ArrivalGiven places cells ssrc number mark (arrivalRefused BadStore places cells)
   badMark : Shaped places cells → congested < mark → ArrivalGiven places cells ssrc number mark (arrivalRefused BadMark places cells)

@@ -1,4 +1,4 @@
--- Taking an arrival file into a store, piece by piece.
+-- Rules: "Arrival file", "ccfbline". Taking an arrival file into a store, piece by piece.
 use Prim.Native.Nat.{ℕ}
 use mathlib.Core.List.{List, _++_}
 use lib.ListN.{length, take}

@@ -1,5 +1,5 @@
--- What ccfbline prints once all of a file was taken, for any store: the report on the newest four numbers of each stream,
--- or the file's refusal.
+-- Rules: "ccfbline". What is printed once all of a file was taken, for any store: the report on
+-- each held place, or the file's refusal.
 use Prim.Native.Nat.{ℕ}
 use mathlib.Core.List.{List}
 use Rattle.arrival_file.specs.File.{endOf}

@@ -1,5 +1,5 @@
--- What ccfbline prints for a file: the report on a store of four places that took its records, or its first
--- fault.
+-- Rules: "ccfbline". What is printed for a file: the report on a store of four places that took its
+-- records, or its first fault.
 use Prim.Native.Nat.{ℕ}
 use mathlib.Core.List.{List, foldl}
 use Rattle.arrival_record.specs.declared.Record.{Record}

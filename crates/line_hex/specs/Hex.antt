@@ -1,5 +1,6 @@
--- The line that ccfbline prints for a packet, as octets of ASCII: its octets in lower-case hex. Every line ends with
--- the same newline, and is put into the output in the same way.
+-- Rules: "ccfbline", rule "Output". The line that is printed for a packet, as octets of ASCII: its
+-- octets in lower-case hex. Every line ends with the same newline, and is put into the output in
+-- the same way.
 use Prim.Native.Nat.{ℕ, _+_, _-_, _/_, _%_}
 use mathlib.Core.Bool.{cond}
 use mathlib.Core.List.{List, [], _∷_, _++_}
@@ -27,7 +28,7 @@ hexOf (x ∷ xs) = digitOf (x / 16) ∷ digitOf (x % 16) ∷ hexOf xs
 abbrev pub newline : List ℕ
 newline = 10 ∷ []
 
--- a packet is one line of lower-case hex
+-- the line of a packet
 unfoldable pub hexLine : List ℕ → List ℕ
 hexLine packet = hexOf packet ++ newline
 

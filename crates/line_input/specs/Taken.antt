@@ -1,4 +1,4 @@
--- What the reads of the program leave.
+-- Rules: "ccfbline", "Arrival file". What the reads of the program leave.
 use Prim.Native.Nat.{ℕ, _<_}
 use mathlib.Core.Path.{_≡_}
 use mathlib.Core.List.{List, [], _∷_, foldl}

@@ -1,4 +1,5 @@
--- What one read of the program leads to, and what it leaves for the next one.
+-- Rules: "ccfbline", "Arrival file". What one read of the program leads to, and what it leaves for
+-- the next one.
 use Prim.Native.Nat.{ℕ, _<_}
 use mathlib.Core.Path.{_≡_}
 use mathlib.Core.List.{List}

@@ -1,5 +1,5 @@
--- What the theorems about ccfbline speak of: how its calls answer, the last known time, and the calls that
--- take a file.
+-- Rules: "ccfbline". What the theorems about the program speak of: how its calls answer, the last
+-- known time, and the calls that take a file.
 use Prim.Native.Nat.{ℕ}
 use mathlib.Core.Path.{_≡_}
 use mathlib.Core.List.{List, [], _∷_, _++_, foldl}

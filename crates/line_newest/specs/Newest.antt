@@ -1,4 +1,5 @@
--- The report that ccfbline prints, for any store: on the newest four numbers of each stream, in place order.
+-- Rules: "ccfbline", rule "Newest four". The report that is printed, for any store: for each held
+-- place in turn, the four numbers that end with the highest.
 use Prim.Native.Nat.{ℕ, _-_}
 use mathlib.Core.List.{List, [], _∷_}
 use Rattle.line_report.specs.Report.{newestNumbers, requestedLines, requestedText}

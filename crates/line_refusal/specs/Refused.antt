@@ -1,4 +1,5 @@
--- The line that ccfbline prints for a refusal, as octets of ASCII: `refused N` with the refusal's number.
+-- Rules: "ccfbline", rule "Fault". The line that is printed for a refusal, as octets of ASCII:
+-- `refused N` with the refusal's number.
 use Prim.Native.Nat.{ℕ, _+_, _/_, _%_}
 use mathlib.Core.Bool.{cond}
 use mathlib.Core.List.{List, [], _∷_, _++_}

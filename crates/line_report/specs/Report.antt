@@ -1,5 +1,5 @@
--- The text that ccfbline prints for requests of four numbers each, for any store: a packet as a line of hex, or the
--- writer's refusal.
+-- Rules: "ccfbline", rule "Report". The text that is printed for requests of four numbers each, for
+-- any store: a packet as a line of hex, or the writer's refusal.
 use Prim.Native.Nat.{ℕ, _+_, _*_}
 use mathlib.Core.Path.{_≡_}
 use mathlib.Core.Bool.{cond}

@@ -1,4 +1,5 @@
--- The store of ccfbline, before the first record: four places, each free, and their cells.
+-- Rules: "ccfbline", rule "Records". The store of the program before the first record: four places,
+-- each free, and their cells.
 use Prim.Native.Nat.{ℕ, _*_}
 use mathlib.Core.List.{List}
 use lib.ListN.{replicate}

@@ -1,5 +1,5 @@
--- The metric of a sequence number: sixteen bits, R, then 2 bits ECN mark, then 13 bits arrival time offset
--- (ATO).
+-- Rules: "Metric", "Reading a metric". The 16 bits of a sequence number: from the highest R (1
+-- bit), the ECN mark (2 bits) and the arrival time offset (ATO, 13 bits).
 use Prim.Native.Nat.{ℕ, _+_, _-_, _*_, _/_, _%_, _^_, _<_}
 use mathlib.Core.Bool.{Bool, true, false, cond}
 use lib.Dec.{eqb, ltb, leb}
@@ -12,7 +12,7 @@ use Rattle.metric.specs.declared.Metric.the-variants.{NotReceived, Recei
 
 -- ---- times
 
--- a time is a count of 1/65536 s, modulo 2^32
+-- rule "Time": a count of 1/65536 s, modulo 2^32
 abbrev pub times : ℕ
 times = 2 ^ 32
 
@@ -26,7 +26,7 @@ abbrev pub timeOf : Bool → ℕ → Time
 timeOf true t = Known t
 timeOf false t = Unknown
 
--- age = (RTS - time) modulo 2^32
+-- rule "Age": RTS less the time, modulo 2^32
 abbrev pub ageOf : ℕ → ℕ → ℕ
 ageOf rts time = (rts + times - time) % times
 
@@ -55,11 +55,12 @@ longestAge = largestOffset * offsetUnit
 abbrev pub afterRts : ℕ
 afterRts = 2 ^ 31
 
--- age 2^31 or more: 0x1FFF; above 524,096: 0x1FFE; else age / 64, rounded down
+-- rule "Offset", where the time is known: 0x1FFF from an age of 2^31 on, 0x1FFE above 524,096, and
+-- below that the age in units of 64
 unfoldable pub atoOfAge : ℕ → ℕ
 atoOfAge age = cond (leb afterRts age) noTime (cond (ltb longestAge age) overRange (age / offsetUnit))
 
--- time unknown: 0x1FFF
+-- rule "Offset": 0x1FFF also where the time is unknown
 abbrev pub atoOf : Time → ℕ → ℕ
 atoOf Unknown rts = noTime
 atoOf (Known t) rts = atoOfAge (ageOf rts t)
@@ -82,7 +83,7 @@ markUnit = 2 ^ 13
 abbrev pub assembledOf : ℕ → ℕ → ℕ
 assembledOf mark ato = receivedBit + markUnit * (mark % 4) + ato
 
--- an empty cell gives 0x0000; a filled one R = 1, its mark and ATO
+-- rules "Not received" and "Received": 0x0000 of an empty cell; of a filled one R = 1, mark, ATO
 abbrev pub encodeOf : Cell → ℕ → ℕ
 encodeOf Empty rts = 0
 encodeOf (Filled mark time) rts = assembledOf mark (atoOf time rts)
@@ -94,11 +95,11 @@ markBits m = m / markUnit % 4
 abbrev pub atoBits : ℕ → ℕ
 atoBits m = m % markUnit
 
--- the two codes are cases without a number
+-- rule "Codes are no offsets": 0x1FFF and 0x1FFE are kinds of their own
 abbrev pub receivedOf : ℕ → ℕ → Metric
 receivedOf mark ato = cond (eqb ato noTime) (NoTime mark) (cond (eqb ato overRange) (OverRange mark) (Received mark ato))
 
--- R = 0: not received, the other 15 bits are ignored
+-- rules "Four kinds" and "Ignored bits": where R = 0, no other bit is looked at
 unfoldable pub decodeOf : ℕ → Metric
 decodeOf m = cond (ltb m receivedBit) NotReceived (receivedOf (markBits m) (atoBits m))
 

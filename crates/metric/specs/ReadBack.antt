@@ -1,4 +1,4 @@
--- What reading a metric back shows.
+-- Rules: "Reading a metric". What reading a metric back shows.
 use Prim.Native.Nat.{ℕ, _≤_}
 use mathlib.Core.Path.{_≡_}
 use Rattle.metric.specs.Metric.{largestOffset, markBits, atoBits}

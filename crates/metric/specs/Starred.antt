@@ -1,4 +1,4 @@
--- The cases at the edges that are proved of the metric, as one list.
+-- Rules: "Cases at the edges". Those that are proved of the metric, as one list.
 use Prim.Native.Nat.{ℕ, _-_, _^_}
 use mathlib.Core.Path.{_≡_}
 use mathlib.Core.List.{List, [], _∷_}

@@ -1,5 +1,5 @@
--- All metrics of a part decoded into three arrays: entry j has the number of metric j's case, its mark and its offset,
--- and 0 where the case has no mark or no offset.
+-- Rules: "Decoding all metrics". All metrics of a part in three arrays: entry j has the number of
+-- metric j's case, its mark and its offset, and 0 where the case has no mark or no offset.
 use Prim.Native.Nat.{ℕ, _/_}
 use mathlib.Core.Bool.{cond}
 use mathlib.Core.List.{List, map}

@@ -1,4 +1,4 @@
--- What stands in the three arrays, entry by entry.
+-- Rules: "Decoding all metrics". What stands in the three arrays, entry by entry.
 use Prim.Native.Nat.{ℕ, _≤_}
 use mathlib.Core.Path.{_≡_}
 use lib.ListN.{length, getD}

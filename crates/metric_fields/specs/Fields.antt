@@ -1,4 +1,5 @@
--- The mark and the offset of a case; a case without one gives the other value. (Its number is `caseNumber` of metric.)
+-- Rules: "Reading a metric", rule "Absent fields". The mark and the offset of a case; a case
+-- without one gives the other value. (Its number is `caseNumber` of metric.)
 use Prim.Native.Nat.{ℕ}
 use Rattle.metric.specs.declared.Metric.{Metric}
 use Rattle.metric.specs.declared.Metric.the-variants.{NotReceived, Received, OverRange, NoTime}

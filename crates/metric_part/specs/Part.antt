@@ -1,4 +1,5 @@
--- The part of a packet that holds the metrics of a block, and what each of its metrics says.
+-- Rules: "Reader", "Walk". The part of a packet that holds the metrics of a block (rule "Part"),
+-- and what each of its metrics says (rule "Metric of a part").
 use Prim.Native.Nat.{ℕ, _+_, _*_, _/_}
 use mathlib.Core.Bool.{cond}
 use mathlib.Core.List.{List, []}

@@ -1,5 +1,5 @@
--- The reader's answers about the metrics of block k, from 0, of any octets: the part of the octets that holds
--- them, and metric j of it.
+-- Rules: "Reader". The answers about the metrics of block k, from 0, of any octets: the part of the
+-- octets that holds them, and metric j of it.
 use Prim.Native.Nat.{ℕ}
 use mathlib.Core.List.{List, []}
 use Rattle.refusal.specs.Numbers.{numberOf}

@@ -1,4 +1,5 @@
--- What the rewriter makes of a metric: a not-received one becomes 0x0000, and all else stays equal.
+-- Rules: "Rewriter". What becomes of a metric: with R = 0 it is written as 0x0000, and else it
+-- stays as it is.
 use Prim.Native.Nat.{ℕ}
 use mathlib.Core.Bool.{cond}
 use lib.Dec.{ltb}

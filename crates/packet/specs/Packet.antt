@@ -1,4 +1,5 @@
--- A packet as data, and its octets. Reader, rewriter and writer share these definitions.
+-- Rules: "Packet". A packet as data, and its octets. Reader, rewriter and writer share these
+-- definitions.
 use Prim.Native.Nat.{ℕ, _+_, _-_, _*_, _/_, _%_, _^_, _<_, _≤_}
 use mathlib.Core.Bool.{cond}
 use mathlib.Core.List.{List, [], _∷_, _++_, map}
@@ -29,7 +30,7 @@ unfoldable pub encodeMetrics : List ℕ → List ℕ
 encodeMetrics [] = []
 encodeMetrics (m ∷ ms) = octets16 m ++ encodeMetrics ms
 
--- 16 zero bits where the count of metrics is odd
+-- rule "Filler": two zero octets where the count of metrics is odd
 unfoldable pub filler : ℕ → List ℕ
 filler n = cond (eqb (n % 2) 0) [] (octets16 0)
 
@@ -70,7 +71,8 @@ senderAt = 4
 abbrev pub firstOctet : ℕ
 firstOctet = versionUnit * version + format
 
--- the first octet; type; length in 32-bit words minus one; SSRC of the packet's sender
+-- the first octet; type; the length field, one less than the 32-bit words of the packet; SSRC of
+-- the sender
 abbrev pub packetHeader : ℕ → ℕ → List ℕ
 packetHeader octets sender = firstOctet ∷ packetType ∷ (octets16 (octets / wordOctets - 1) ++ octets32 sender)
 

@@ -1,5 +1,5 @@
--- How many octets blocks and packets take. The rules of `cutting` read these too: they know how many reports
--- each block has, and no octets.
+-- Rules: "Packet", rule "Sizes". How many octets blocks and packets take. The rules of `cutting`
+-- read these too: they know how many reports each block has, and no octets.
 use Prim.Native.Nat.{ℕ, _+_, _*_, _/_, _^_}
 use mathlib.Core.List.{List, [], _∷_}
 
@@ -26,7 +26,7 @@ blockHeaderOctets = 8
 abbrev pub rtsOctets : ℕ
 rtsOctets = 4
 
--- a block of n numbers: 8 + 2n octets, rounded up to a multiple of 4
+-- a block of n numbers: 8 + 2n octets, and 2 more where n is odd
 abbrev pub blockOctets : ℕ → ℕ
 blockOctets n = (blockHeaderOctets + 2 * n + 3) / wordOctets * wordOctets
 

@@ -1,5 +1,10 @@
--- The header of a packet, which may be any octets. Its refusals in the order of their tests: 21 fewer than 12 octets,
--- 22 version not 2, 23 type not 205 or FMT not 11, 24 length field not that of the octets given, 25 padding flag set.
+-- Rules: "Reader", rule "Header". The header of a packet, which may be any octets. Its refusals, in
+-- the order of their tests:
+--   21   fewer than 12 octets
+--   22   another version than 2
+--   23   another type than 205, or another FMT than 11
+--   24   the length field says another length than that of the octets
+--   25   the padding flag is 1
 use Prim.Native.Nat.{ℕ, _+_, _*_, _/_, _%_}
 use mathlib.Core.Bool.{Bool, cond, not}
 use mathlib.Core.List.{List}
@@ -15,7 +20,8 @@ use Rattle.packet_header.specs.declared.Start.the-variants.{At, Refused}
 abbrev pub differ : ℕ → ℕ → Bool
 differ a b = not (eqb a b)
 
--- octet 0: version, padding flag, FMT; octet 1: type; octets 2 and 3: length in 32-bit words minus one
+-- octet 0: version, padding flag, FMT; octet 1: type; octets 2 and 3: one less than the 32-bit
+-- words
 abbrev pub versionOf : List ℕ → ℕ
 versionOf s = getD s 0 0 / versionUnit
 

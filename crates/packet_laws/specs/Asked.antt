@@ -1,5 +1,5 @@
--- The reader's answers, from the blocks of a packet alone: where each block stands, and metric j of block k.
--- The theorems say that the reader answers so.
+-- Rules: "Reader". The reader's answers, from the blocks of a packet alone: where each block
+-- stands, and metric j of block k. The theorems say that the reader answers so.
 use Prim.Native.Nat.{ℕ, zero, suc, _+_, _%_}
 use mathlib.Core.Bool.{cond}
 use mathlib.Core.List.{List, [], _∷_}

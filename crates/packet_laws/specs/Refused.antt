@@ -1,5 +1,6 @@
--- When the reader and the rewriter give each refusal: its own condition holds, and that of none before it.
--- The conditions are stated field by field, without the walk that decides them.
+-- Rules: "Refusals", "Order of refusals". When the reader and the rewriter give each refusal: its
+-- own condition holds, and that of none before it. The conditions are stated field by field,
+-- without the walk that decides them.
 use Prim.Native.Nat.{ℕ, _+_, _*_, _%_, _<_, _≤_}
 use mathlib.Core.Path.{_≡_}
 use mathlib.Core.List.{List}

@@ -1,4 +1,5 @@
--- What holds of a packet that was rewritten: its octets are read as those of the packet before.
+-- Rules: "Rewriter". What holds of a packet that was rewritten: its octets are read as those of the
+-- packet before.
 use Prim.Native.Nat.{ℕ}
 use mathlib.Core.Path.{_≡_}
 use mathlib.Core.List.{List}

@@ -1,4 +1,5 @@
--- What is accepted is, octet by octet, the packet that is read.
+-- Rules: "Reader", rule "Written and read". What is accepted is, octet by octet, the packet that is
+-- read.
 use Prim.Native.Nat.{ℕ}
 use mathlib.Core.Path.{_≡_}
 use mathlib.Core.List.{List}

@@ -1,6 +1,6 @@
--- The windows of the streams: where a number's cell stands, and how a call on a number moves its stream's
--- window. All of it is over f, what becomes of the word of the number's own cell, and over the answer that a
--- call gives.
+-- Rules: "Arrivals and the window", "Store words". Where a number's cell stands, and how a call on
+-- a number moves its stream's window. All of it is over f, what becomes of the word of the number's
+-- own cell, and over the answer that a call gives.
 use Prim.Native.Nat.{ℕ, _+_, _-_, _*_, min}
 use mathlib.Core.List.{List}
 use lib.ListN.{getD, set}
@@ -50,7 +50,8 @@ module _ {A : Type 0} (accepted : A) (refused : Refusal → A) (f : ℕ → ℕ)
   unfoldable pub continued : List ℕ → List ℕ → ℕ → ℕ → ℕ → StoreAfter A
   continued places cells p ssrc number = movedBy (moveOf (highestAt places p) number) places cells p ssrc number
 
-  -- a number of an unknown stream: it takes the lowest free place, and its cells are emptied
+  -- rule "New stream": a number of a stream that no place holds takes the lowest free place and
+  -- empties its cells
   abbrev pub startedAt : Found → List ℕ → List ℕ → ℕ → ℕ → StoreAfter A
   startedAt (At p) places cells ssrc number = moved places cells p ssrc number cellsOfAPlace
   startedAt Nothing places cells ssrc number = storeAfter (refused NoFreePlace) places cells

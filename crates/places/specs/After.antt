@@ -1,4 +1,5 @@
--- What a call leaves: its answer, and the content of the store that was lent to it.
+-- Rules: "What each call owes", rule "One answer". What a call leaves: its answer, and the content
+-- of the store that was lent to it.
 use Prim.Native.Nat.{ℕ}
 use mathlib.Core.List.{List}
 

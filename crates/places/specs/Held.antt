@@ -1,5 +1,5 @@
--- Which streams a store holds, in the words of the rules. `findOf` and `freeOf` are the searches that decide
--- it.
+-- Rules: "Arrivals and the window", "What a store means". Which streams a store holds, in the words
+-- of the rules. `findOf` and `freeOf` are the searches that decide it.
 use Prim.Native.Nat.{ℕ, _<_}
 use mathlib.Core.Path.{_≡_}
 use mathlib.Core.List.{List}

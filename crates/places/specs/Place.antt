@@ -1,4 +1,5 @@
--- How a place's 64-bit word stores the stream that it holds. Any word reads as free or held.
+-- Rules: "Store words", rule "Place word". How a place's 64-bit word stores the stream that it
+-- holds. Any word reads as free or held.
 --   word / 2^48          1 where the place is held; any other word reads as free
 --   word / 2^16 % 2^32   the SSRC of the stream
 --   word % 2^16          its highest sequence number
@@ -59,7 +60,7 @@ holds places ssrc k = isStream ssrc (placeAt places k)
 abbrev pub free : List ℕ → ℕ → Bool
 free places k = isFree (placeAt places k)
 
--- of two places with one SSRC the first counts
+-- rule "Any content": where two places hold the stream, the lower one is found
 abbrev pub findOf : List ℕ → ℕ → Found
 findOf places ssrc = firstFrom (holds places ssrc) 0 (length places)
 

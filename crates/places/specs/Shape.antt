@@ -1,4 +1,5 @@
--- The shape of a store: 1 to 16 places, each with 2,048 cells.
+-- Rules: "Arrivals and the window", rule "Store". The shape of a store: 1 to 16 places, each with
+-- 2,048 cells.
 use Prim.Native.Nat.{ℕ, _*_, _≤_, _<_}
 use mathlib.Core.Path.{_≡_}
 use mathlib.Core.Bool.{Bool, false, cond}
@@ -21,7 +22,7 @@ pub record Shaped (places cells : List ℕ) : Type 0 where
   pub few : length places ≤ mostPlaces
   pub sized : length cells ≡ cellsOfAPlace * length places
 
--- its contrary: no place, more than 16, or parts whose lengths disagree
+-- its contrary, refusal 4: not 1 to 16 places, or not 2,048 cells for each
 pub data Misshapen (places cells : List ℕ) : Type 0 where
   none : length places ≡ 0 → Misshapen places cells
   tooMany : mostPlaces < length places → Misshapen places cells

@@ -1,4 +1,5 @@
--- What the measure of a cutting answers: how many packets it has, and their octets together.
+-- Rules: "Writer", rule "Result". What the measure of a cutting answers: how many packets it has,
+-- and their octets together.
 use mathlib.Core.Path.{_≡_}
 use lib.ListN.{length}
 use Rattle.plan_size.specs.declared.Total.{Total}

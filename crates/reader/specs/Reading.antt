@@ -1,5 +1,5 @@
--- What any octets are read as, a packet or the reader's first refusal, and the reader's answer about the whole:
--- sender, RTS and number of blocks.
+-- Rules: "Reader". What any octets are read as, a packet or the reader's first refusal, and the
+-- answer about the whole: sender, RTS and number of blocks (rule "Whole packet").
 use Prim.Native.Nat.{ℕ, zero, suc, _+_}
 use mathlib.Core.List.{List, [], _∷_, map}
 use lib.ListN.{length}

@@ -1,4 +1,5 @@
--- What the records of an arrival file make: each is an arrival, and RTS is the last known time in the file, else 0.
+-- Rules: "ccfbline", rules "Records" and "RTS of the report". What the records of an arrival file
+-- make: each is an arrival, and the last known time becomes RTS.
 use Prim.Native.Nat.{ℕ}
 use mathlib.Core.List.{List}
 use Rattle.metric.specs.declared.Time.{Time}

@@ -1,4 +1,5 @@
--- The number of each refusal, as a caller is given it. 0 is no refusal; 15 to 20 are not used.
+-- Rules: "Refusals". The number of each refusal, as a caller is given it. 0 is no refusal; 15 to 20
+-- are not used.
 use Prim.Native.Nat.{ℕ}
 use Rattle.refusal.specs.declared.Refusal.{Refusal}
 use Rattle.refusal.specs.declared.Refusal.the-variants.{BadMark, NoFreePlace, TooOld, BadStore, NotHeld}

@@ -1,4 +1,5 @@
--- The reports of a block: metric j, from 0, by its number and its case; 30 where there is none.
+-- Rules: "Reader", rule "Metric j". Metric j of a block, from 0, by its number and its case; 30
+-- where there is none.
 use Prim.Native.Nat.{ℕ, _+_, _*_, _%_, _≤_}
 use mathlib.Core.Bool.{cond}
 use mathlib.Core.List.{List}

@@ -1,4 +1,4 @@
--- What is wrong with a request: refusals 5, 8, 9, in this order.
+-- Rules: "Requests". What is wrong with a request: refusals 5, 8, 9, in this order.
 use Prim.Native.Nat.{ℕ, _-_}
 use mathlib.Core.Bool.{Bool, true, false, cond}
 use mathlib.Core.List.{List, [], _∷_}
@@ -18,9 +18,9 @@ unfoldable pub named : List Request → ℕ → Bool
 named [] ssrc = false
 named (q ∷ qs) ssrc = cond (eqb (q .ssrc) ssrc) true (named qs ssrc)
 
--- a range lies in the window that ends with the highest number: its begin is less than 2,048 numbers behind
--- the highest one, and at least count - 1 numbers behind it; a range of no number begins at the highest
--- number
+-- rules "Range in the window" and "Empty request": the begin of a range is at most 2,047 numbers
+-- behind the highest one, and not less than count - 1; that of a range without numbers is the
+-- highest one
 unfoldable pub inWindow : ℕ → ℕ → ℕ → Bool
 inWindow highest begin count =
     cond (eqb count 0) (eqb begin highest)

@@ -1,4 +1,4 @@
--- Requests that are lent as a list, as the array of 16 that the writer takes.
+-- Rules: "Requests". Requests that are lent as a list, as the array of 16 that the writer takes.
 use mathlib.Core.List.{List}
 use lib.ListN.{take, replicate}
 use lib.Seq.{sets}

@@ -1,4 +1,5 @@
--- What is wrong with requests: request by request refusals 5, 8, 9; the first fault counts.
+-- Rules: "Requests", "Order of refusals". What is wrong with requests: for each in turn refusals 5,
+-- 8, 9; the first fault counts.
 use Prim.Native.Nat.{ℕ}
 use mathlib.Core.List.{List, [], _∷_, _++_}
 use Rattle.cutting.specs.declared.Request.{Request}

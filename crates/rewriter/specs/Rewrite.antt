@@ -1,4 +1,5 @@
--- What the rewriter makes of a packet: each not-received metric becomes 0x0000, and all else stays equal.
+-- Rules: "Rewriter", rule "Tidied". What the rewriter makes of a packet: its metrics with R = 0
+-- become 0x0000, and nothing else changes.
 use Prim.Native.Nat.{ℕ, _<_}
 use mathlib.Core.Path.{_≡_}
 use mathlib.Core.Bool.{cond}
@@ -23,7 +24,7 @@ rewriteBlock b = record { ssrc = b .ssrc; begin = b .begin; metrics = map rewrit
 abbrev pub rewritePacket : Packet → Packet
 rewritePacket p = record { sender = p .sender; rts = p .rts; blocks = map rewriteBlock (p .blocks) }
 
--- no not-received metric has other bits set
+-- rule "When nothing changes": each metric with R = 0 is 0x0000
 abbrev pub Clean : Packet → Type 0
 Clean p = All (λ b. All (λ m. m < receivedBit → m ≡ 0) (b .metrics)) (p .blocks)
 

@@ -1,4 +1,5 @@
--- A ring of words in a longer list. Each number has its slot, and no two numbers of one window have the same.
+-- Rules: "Store words", rule "Cell of a number". A ring of words in a longer list. Each number has
+-- its slot, and no two numbers of one window have the same.
 use Prim.Native.Nat.{ℕ, zero, suc, _+_, _%_}
 use mathlib.Core.List.{List}
 use lib.ListN.{set}

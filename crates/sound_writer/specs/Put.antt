@@ -1,4 +1,5 @@
--- The packets of a cutting, put into the output if it has room for them: refusal 10.
+-- Rules: "Writer", rule "Room". The packets of a cutting, put into the output if it has room for
+-- them: refusal 10.
 use Prim.Native.Nat.{ℕ}
 use mathlib.Core.Bool.{cond}
 use mathlib.Core.List.{List}

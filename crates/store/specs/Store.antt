@@ -1,4 +1,5 @@
--- What is asked of a store besides arrivals: each call, as its answer and what it leaves, of any lent content.
+-- Rules: "Arrivals and the window". What is asked of a store besides arrivals: each call, as its
+-- answer and what it leaves, of any lent content.
 use Prim.Native.Nat.{ℕ}
 use mathlib.Core.Bool.{cond}
 use mathlib.Core.List.{List}
@@ -16,7 +17,7 @@ use Rattle.places.specs.declared.Holding.the-variants.{Free, Held}
 use Rattle.store.specs.declared.Forgetting.the-variants as forgetting
 use Rattle.store.specs.declared.PlaceAnswer.the-variants as answer
 
--- ---- forgetting a stream frees its place: refusals 4, 5
+-- ---- rule "Forgetting": refusals 4, 5
 
 abbrev pub forgottenAt : Found → List ℕ → PlacesAfter Forgetting
 forgottenAt (At p) places = placesAfter forgetting.Forgotten (set places p 0)
@@ -26,7 +27,7 @@ abbrev pub forgotten : List ℕ → List ℕ → ℕ → PlacesAfter Forgetting
 forgotten places cells ssrc =
     cond (shaped places cells) (forgottenAt (findOf places ssrc) places) (placesAfter (forgetting.Refused BadStore) places)
 
--- ---- which stream and highest number the place k holds: refusals 4, 5
+-- ---- rule "Place k", its stream and highest number: refusals 4, 5
 
 abbrev pub answerOf : Holding → PlaceAnswer
 answerOf Free = answer.Refused NotHeld

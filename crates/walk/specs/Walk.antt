@@ -1,6 +1,10 @@
--- The walk over a packet, which may be any octets: the header, then block by block to RTS or to the first
--- refusal. The refusals of a block in the order of their tests: 26 its header runs into RTS, 27 more than 16,384
--- reports, 26 its metrics run into RTS, 28 filler not zero.
+-- Rules: "Reader", rule "Blocks"; "Walk". The walk over a packet, which may be any octets: the
+-- header, then block by block to RTS or to the first refusal. The refusals of a block, in the order
+-- of their tests:
+--   26   its header would reach into RTS
+--   27   more than 16,384 reports
+--   26   its metrics would reach into RTS
+--   28   its filler has a bit set
 use Prim.Native.Nat.{ℕ, zero, suc, _+_, _-_, _*_, _%_}
 use mathlib.Core.Bool.{cond}
 use mathlib.Core.List.{List, [], _∷_}

@@ -1,4 +1,4 @@
--- Sequence numbers, and how one moves the window of its stream.
+-- Rules: "Arrivals and the window". Sequence numbers, and how one moves the window of its stream.
 use Prim.Native.Nat.{ℕ, _+_, _-_, _%_, _^_}
 use mathlib.Core.Bool.{Bool, cond, false}
 use lib.Dec.{eqb, ltb, leb}
@@ -18,11 +18,12 @@ distanceOf a b = (a + sequenceNumbers - b) % sequenceNumbers
 abbrev pub farthestAhead : ℕ
 farthestAhead = 2 ^ 15 - 1
 
--- f from 1 to 32,767
+-- rule "Ahead": f from 1 to 32,767
 abbrev pub isAhead : ℕ → Bool
 isAhead f = cond (eqb f 0) false (leb f farthestAhead)
 
--- f and b: how far the number is ahead of the highest, and how far behind it
+-- rules "Ahead", "In the window" and "Too old", by f and b: how far the number is ahead of the
+-- highest, and how far behind it
 abbrev pub moveBy : ℕ → ℕ → Move
 moveBy f b = cond (isAhead f) (Ahead f) (cond (ltb b cellsOfAPlace) (Within b) TooOld)
 

@@ -1,5 +1,5 @@
--- The writer: its answer and its output, for every input and any lent store content. Refusals 4, 6, 7, then
--- request by request 5, 8, 9, then 10.
+-- Rules: "Writer", "Order of refusals". The answer and the output, for every input and any lent
+-- store content. Refusals 4, 6, 7; for each request in turn 5, 8, 9; and last 10.
 use Prim.Native.Nat.{ℕ}
 use mathlib.Core.Bool.{cond}
 use mathlib.Core.List.{List, []}

@@ -1,5 +1,5 @@
--- What a reader finds in the writer's output. Nothing here is the writer's: a walk over length fields, and
--- the reader's own walk over blocks.
+-- Rules: "Writer", "Cuttings". What a reader finds in the writer's output. Nothing here is the
+-- writer's: a walk over length fields, and the reader's own walk over blocks.
 use Prim.Native.Nat.{ℕ, zero, suc, _+_, _*_, _%_, _^_, _≤_, _<_}
 use mathlib.Core.Path.{_≡_}
 use mathlib.Core.Bool.{cond}
@@ -32,7 +32,7 @@ use Rattle.reports.specs.declared.MetricAnswer.the-variants as asked
 
 -- ---- the packets that walking the length fields finds
 
--- the octets of the first packet: its length field is in 32-bit words minus one
+-- the octets of the first packet, by its length field, which is one less than its 32-bit words
 abbrev pub firstOctets : List ℕ → ℕ
 firstOctets s = 4 * (be16 s 2 + 1)
 
@@ -71,7 +71,7 @@ cuttingRead rs ps = map (λ (s : List ℕ). blocksRead rs (walkOf s)) ps
 abbrev pub PacketRead : ℕ → ℕ → List Request → List ℕ → Type 0
 PacketRead sender rts rs s = readOf (decodePacket s) ≡ reading.Accepted sender rts (length (blocksRead rs (walkOf s)))
 
--- it has at most `limit` octets, and at most the limit rounded down to a multiple of 4
+-- it has at most `limit` octets, and at most the limit in whole 32-bit words
 abbrev pub WithinLimit : ℕ → List ℕ → Type 0
 WithinLimit limit s = (length s ≤ limit) × (length s ≤ roundedDown limit)
 
@@ -119,10 +119,9 @@ pub record Report (places cells : List ℕ) (sender rts limit : ℕ) (rs : List 
   -- their blocks are a cutting of the requests, with just p packets
   pub cuts : Cuts limit rs (cuttingRead rs (packetsIn (take o exit)))
   pub cut-count : length (cuttingRead rs (packetsIn (take o exit))) ≡ p
-  -- and no cutting has fewer
+  -- rule "Fewest packets": no cutting has fewer
   pub fewest : (c : Cutting) → Cuts limit rs c → p ≤ length c
-  -- each packet takes the next numbers, or the next empty block, as long as the room left holds one more: what a
-  -- packet begins with did not fit in the packet before
+  -- rule "Filled up": what a packet begins with did not fit in the packet before
   pub filled-up : FilledUp limit (cuttingRead rs (packetsIn (take o exit)))
   -- each metric read back is that of its number in the store at RTS
   pub metrics : All (MetricsRead places cells rts) (packetsIn (take o exit))

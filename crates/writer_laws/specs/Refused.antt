@@ -1,5 +1,5 @@
--- When each refusal of the writer is given, in the words of the rules. The order is 4, 6, 7, then request by
--- request 5, 8, 9, then 10.
+-- Rules: "Refusals", "Order of refusals". When each refusal of the writer is given, in the words of
+-- the rules. First 4, 6, 7; for each request in turn 5, 8, 9; and last 10.
 use Prim.Native.Nat.{ℕ, _-_, _≤_, _<_}
 use mathlib.Core.Path.{_≡_}
 use mathlib.Core.Logic.{_⊎_}
@@ -22,8 +22,9 @@ pub data Named (ssrc : ℕ) : List Request → Type 0 where
   here : {q : Request} {qs : List Request} → q .ssrc ≡ ssrc → Named ssrc (q ∷ qs)
   there : {q : Request} {qs : List Request} → Named ssrc qs → Named ssrc (q ∷ qs)
 
--- a range that is not empty lies in the stream's window: it begins less than 2,048 numbers behind the highest
--- one, and at least count - 1 numbers behind it; an empty one begins at the highest number
+-- rules "Range in the window" and "Empty request": a range that is not empty begins at most 2,047
+-- numbers behind the highest one, and not less than count - 1; an empty one begins at the highest
+-- number
 pub record InWindow (highest begin count : ℕ) : Type 0 where
   pub some : 0 < count → (distanceOf highest begin < cellsOfAPlace) × (count - 1 ≤ distanceOf highest begin)
   pub none : count ≡ 0 → begin ≡ highest
@@ -68,7 +69,7 @@ module _ (places cells : List ℕ) (sender rts limit n : ℕ) (rs : List Request
     pub most : limit ≤ mostLimit
     pub few : n ≤ mostRequests
 
-  -- the output is shorter than what is to be written
+  -- rule "Room": the output has fewer octets than the packets take
   abbrev pub TooShort : Type 0
   TooShort = length out < length (encodePackets (packetsFor places cells sender rts limit rs))
 

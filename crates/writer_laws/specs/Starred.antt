@@ -1,4 +1,5 @@
--- The cases at the edges that are proved of the writer: ranges of 5 and 3 numbers, at three limits.
+-- Rules: "Cases at the edges". Those that are proved of the writer: a range of five numbers and one
+-- of three, at three limits.
 use mathlib.Core.List.{List, [], _∷_, map}
 use Prim.Native.Nat.{ℕ, _*_}
 use lib.ListN.{length, take, replicate}
