@@ -1,4 +1,4 @@
-/* The starred cases of the writer, called through the C header: ranges of 5 and 3 numbers. */
+/* The starred cases of the writer, called through the C header: two ranges at three limits. */
 
 #include "ccfb.h"
 

@@ -37,30 +37,25 @@ fn numbers(begin: u16, count: u16) -> Vec<u16> {
     (0..count).map(|i| begin.wrapping_add(i)).collect()
 }
 
-/// The first packet rule that a cutting breaks. The limit is a multiple of 4.
+/// The first packet rule that a cutting breaks, by its name in docs/RULES.md. The limit is a
+/// multiple of 4.
 pub fn broken_rule(requests: &[Request], limit: usize, cutting: &[Packet]) -> Option<&'static str> {
     let blocks: Vec<Block> = cutting.concat();
     let rules: [(&str, bool); 7] = [
         ("a block is of a request of the list", {
             blocks.iter().all(|block| block.request < requests.len())
         }),
-        ("requests in the given order through all packets", {
-            blocks.windows(2).all(|two| two[0].request <= two[1].request)
-        }),
-        ("numbers in rising order from begin, each once and none outside", {
+        ("Order of requests", blocks.windows(2).all(|two| two[0].request <= two[1].request)),
+        ("Each number once", {
             (0..requests.len()).all(|request| all_its_numbers(requests, request, &blocks))
         }),
-        ("no stream twice in one packet", {
-            cutting.iter().all(|packet| no_stream_twice(requests, packet))
-        }),
-        ("count 0 makes one empty block at begin, and no other block is empty", {
+        ("No stream twice", cutting.iter().all(|packet| no_stream_twice(requests, packet))),
+        ("Empty blocks", {
             empty_blocks(requests)
                 == blocks.iter().filter(|b| b.count == 0).copied().collect::<Vec<_>>()
         }),
-        ("each packet has a block", !cutting.contains(&vec![])),
-        ("no packet is over the limit", {
-            cutting.iter().all(|packet| packet_size(packet) <= limit)
-        }),
+        ("No empty packet", !cutting.contains(&vec![])),
+        ("Within the limit", cutting.iter().all(|packet| packet_size(packet) <= limit)),
     ];
     rules.iter().find(|(_, kept)| !kept).map(|(rule, _)| *rule)
 }
@@ -236,12 +231,12 @@ mod tests {
             assert!(broken.contains(rule), "{broken}, not {rule}");
         };
         breaks(&|c| c[0][0].request = 3, "of a request");
-        breaks(&|c| c.reverse(), "given order");
-        breaks(&|c| c[0][0].count = 1, "rising order");
-        breaks(&|c| c[0][0].begin = 0, "rising order");
-        breaks(&|c| c[0].insert(0, block(0, 65_534, 0)), "twice");
-        breaks(&|c| c[0][1].begin = 0, "empty block");
-        breaks(&|c| c.push(vec![]), "has a block");
-        breaks(&|c| *c = vec![c.concat()], "over the limit");
+        breaks(&|c| c.reverse(), "Order of requests");
+        breaks(&|c| c[0][0].count = 1, "Each number once");
+        breaks(&|c| c[0][0].begin = 0, "Each number once");
+        breaks(&|c| c[0].insert(0, block(0, 65_534, 0)), "No stream twice");
+        breaks(&|c| c[0][1].begin = 0, "Empty blocks");
+        breaks(&|c| c.push(vec![]), "No empty packet");
+        breaks(&|c| *c = vec![c.concat()], "Within the limit");
     }
 }

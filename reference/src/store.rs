@@ -26,7 +26,7 @@ pub struct Accepted {
     pub arrived: Arrived,
 }
 
-/// A stream since it took its place.
+/// A stream with its history.
 #[derive(Clone, Debug)]
 pub struct Stream {
     pub ssrc: u32,

@@ -20,7 +20,7 @@ pub enum RecordRead {
     Refused(Refusal),
 }
 
-// The record at the front of some octets of a file (SSRC 4 octets, number 2, mark 1, time-known flag 1, time 4):
+// The record at the front of some octets of a file (octets 0 to 3 SSRC, 4 and 5 number, 6 mark, 7 flag, 8 to 11 time):
 // refusals 13, 14.
 pub fn read_record(s: &[u8]) -> RecordRead
     ensures value { λ r. ⌜ r ≡ recordReadOf (now (s .entry)) ⌝ }

@@ -9,7 +9,7 @@ use metric::Time;
 use refusal::Refusal;
 use ring::CELLS_OF_A_PLACE;
 
-// One arrival: refusals 4, 1, then 3 or 2.
+// One arrival: refusals 4, 1; 3 if the stream is held, else 2.
 pub fn arrive(
     places: &mut [u64],
     cells: &mut [u64],

@@ -1,4 +1,4 @@
-// Writes the report blocks of a packet: the metrics of each range, as long as the room left holds one more.
+// Writes the report blocks of a packet: the metrics of range after range, until the next number does not fit.
 ghost use mathlib.Core.Path.{_≡_};
 ghost use Prim.Native.Nat.{_≤_};
 ghost use lib.ListN.{length, take};

@@ -16,7 +16,7 @@ fn arrival_refusal(answer: Arrival) -> u8
     }
 }
 
-// Records one arrival. Refusals 4, 1, then 3 or 2.
+// Records one arrival. Refusals 4, 1; 3 if the stream is held, else 2.
 #[no_mangle]
 pub extern "C" fn ccfb_arrive(
     places: &mut [u64],

@@ -5,7 +5,7 @@ ghost use Rattle.rewriter.specs.Rewrite.{rewriteOf};
 ghost use Rattle.ccfb_rewriter.specs.Rewriting.{rewrote, rewriteCalled};
 use rewriter::Rewriting;
 
-// Writes the packet to the start of the output with each not-received metric set to 0x0000. Refusals 21 to 28, then 10.
+// Writes the packet to the start of the output; its metrics with R = 0 become 0x0000. Refusals 21 to 28, then 10.
 #[no_mangle]
 pub extern "C" fn ccfb_rewrite(packet: &[u8], out: &mut [u8], written: &mut usize) -> u8
     ensures after { λ r. ⌜

@@ -41,7 +41,8 @@ pub fn write_array<'a>(
     }
 }
 
-// Reports on the requests of a list, packets back to back. Refusals 4, 6, 7, then request by request 5, 8, 9, then 10.
+// Reports on the requests of a list, packets back to back. Refusals 4, 6, 7; for each request in turn 5, 8, 9; and
+// last 10.
 #[no_mangle]
 pub extern "C" fn ccfb_write<'a>(
     places: &'a [u64],

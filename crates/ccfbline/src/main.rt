@@ -1,4 +1,4 @@
-// Reads an arrival file from standard input, and prints the feedback on its streams or the file's first fault.
+// Takes an arrival file on standard input, and prints the feedback on its streams or the file's first fault.
 ghost use Prim.Native.Nat.{_≤_};
 ghost use lib.ListN.{length};
 ghost use Rattle.line_report.specs.Report.{lineRoom};

@@ -21,7 +21,7 @@ pub sizes : map (λ (limit : ℕ). map (λ (p : CutPacket). packetOctets (counts
 unfolding five-three nextBlock filledFrom packetsFrom
 sizes = refl
 
--- no request gives no packet
+-- rule "No request": the plan of an empty list has no packet
 pub no-request : plan 48 [] ≡ []
 unfolding packetsFrom
 no-request = refl

@@ -60,8 +60,7 @@ module _ (st : Store) (new : Fresh st) (cs : List Call) (range : All CallInRange
     shown : Feedback st cs sender rts limit rs out output p o
     shown = feedback st new cs range sender rts limit n rs out bits p o e
 
-    -- each number that a written packet reports is answered as the accepted arrivals of its stream since it took its
-    -- place say
+    -- each number that a written packet reports is answered as the history of its stream says
     pub reported-as-arrived : All (ReportedAsArrived (historyOf st cs) rts) (packetsIn (take o output))
     reported-as-arrived =
         all-zip (packetsIn (take o output))

@@ -221,7 +221,7 @@ module _ (st st′ : Store) (new : Fresh st) (new′ : Fresh st′) (cs cs′ : 
     pub same-highest : placeAt (storeRun st cs .places) p ≡ placeAt (storeRun st′ cs′ .places) (same-held .0)
     same-highest = H .place ∙ sym (H′ .place)
 
-    -- and the same metric of every number at the same RTS, whatever came in for other streams
+    -- rule "Streams do not mix": and at any RTS every number has the same metric in both
     pub same-metrics : (rts number : ℕ) → cellMetric (storeRun st cs .cells) rts p number ≡ cellMetric (storeRun st′ cs′ .cells) rts (same-held .0) number
     unfolding cellMetric
     same-metrics rts number =

@@ -1,4 +1,4 @@
-// Reads an arrival file from standard input, and takes its records into a store as they come.
+// Reads standard input, an arrival file, and takes its records into a store as they come.
 ghost use Prim.Native.Nat.{_≤_, _<_};
 ghost use lib.ListN.{length};
 ghost use Rattle.arrival_record.specs.Record.{recordOctets};

@@ -221,7 +221,7 @@ rts-from (r ∷ rs) x =
     here Unknown e h = _⊎_.inl ((e, h .0), h .1 ∙ ap (lastKnown (x .rts)) e)
     here (Known t) e h = _⊎_.inr (subst (Last (r ∷ rs)) (sym (h .1 ∙ ap (lastKnown (x .rts)) e)) (Last.at [] r rs t refl e (h .0)))
 
--- RTS is the last known time of the file's records, those passed over too, else 0.
+-- Rule "RTS of the report": the time of the last record that has one, skipped records too; else 0.
 pub rts-is-last : (rs : List Record) → LastTime rs (foldl afterRecord fresh rs .rts)
 rts-is-last rs =
     ⊎-elim (λ h. subst (LastTime rs) (sym (h .1)) (LastTime.none (h .0))) (last-time rs (foldl afterRecord fresh rs .rts)) (rts-from rs fresh)

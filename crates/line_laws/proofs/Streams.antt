@@ -1,4 +1,4 @@
--- The newest four numbers of each stream are sound requests where no SSRC is in two places. Assumes nothing.
+-- Rule "Newest four": where no SSRC is in two places, the requests of the program are sound. Assumes nothing.
 use Prim.Native.Nat.{ℕ, zero, suc, _+_, _-_, _<_}
 use mathlib.Core.Path.{_≡_, refl, sym, ap, _∙_}
 use mathlib.Core.Bool.{true, false}

@@ -16,8 +16,8 @@ const NEWEST_NUMBERS: u16 = 4;
 
 const BACK: u16 = NEWEST_NUMBERS - 1;
 
-// Writes the report on the newest four numbers of each stream, in place order, to the front of the output: how many
-// octets.
+// Writes the report on each held place in turn, four numbers that end with the highest, to the front of the output:
+// how many octets.
 pub fn report(places: &[u64], cells: &[u64], rts: u32, out: &mut [u8]) -> usize
     requires room { ⌜ lineRoom ≤ length (now out) ⌝ }
     ensures after { λ r. ⌜

@@ -11,7 +11,7 @@ use Rattle.metric.specs.ReadBack.{Offset}
 use Rattle.metric.specs.declared.Metric.the-variants.{NotReceived, Received, OverRange, NoTime}
 
 module _ (m : ℕ) where
-  -- R = 0: the other 15 bits are ignored
+  -- rule "Ignored bits": R = 0 is not received, whatever the lower 15 bits are
   pub reads-not-received : m < receivedBit → decodeOf m ≡ NotReceived
   unfolding decodeOf
   reads-not-received h = rw (lt-ltb m receivedBit h)

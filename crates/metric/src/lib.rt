@@ -20,7 +20,7 @@ pub const RECEIVED_BIT: u16 = 0x8000;
 
 pub const MARK_UNIT: u16 = 0x2000;
 
-// A time of arrival, a count of 1/65536 s (the middle 32 bits of an NTP timestamp).
+// A time of arrival: a count of 1/65536 s, bits 16 to 47 of a 64-bit NTP timestamp.
 pub enum Time {
     Unknown,
     Known(u32),
@@ -33,7 +33,7 @@ pub enum Cell {
     Filled { mark: u8, time: Time },
 }
 
-// A metric read back. The last three carry the ECN mark; only the first of them has an offset.
+// A metric read back. All but NotReceived have an ECN mark, and only Received has an offset.
 pub enum Metric {
     NotReceived,
     Received { mark: u8, offset: u16 },

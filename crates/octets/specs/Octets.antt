@@ -1,4 +1,4 @@
--- Numbers of 16 and 32 bits as octets, the highest octet first (big-endian).
+-- Rules: "Packet". Numbers of 16 and 32 bits as octets, the highest octet first (big-endian).
 -- `sets out at vs` of `lib.Seq` is `out` with `vs` written starting at the offset `at`.
 use Prim.Native.Nat.{ℕ, _+_, _*_, _/_, _%_, _^_, _<_}
 use mathlib.Core.List.{List, [], _∷_, _++_}

@@ -1,4 +1,5 @@
--- What a call that writes octets leaves: its answer, and the content of its output.
+-- Rules: "What each call owes", rule "One answer". What a call that writes octets leaves: its
+-- answer, and the content of its output.
 use Prim.Native.Nat.{ℕ}
 use mathlib.Core.List.{List}
 

@@ -34,7 +34,7 @@ encodeMetrics (m ∷ ms) = octets16 m ++ encodeMetrics ms
 unfoldable pub filler : ℕ → List ℕ
 filler n = cond (eqb (n % 2) 0) [] (octets16 0)
 
--- SSRC, begin_seq, num_reports
+-- SSRC, begin_seq, num_reports (rule "Count, not end")
 abbrev pub blockHeader : ℕ → ℕ → ℕ → List ℕ
 blockHeader ssrc begin n = octets32 ssrc ++ (octets16 begin ++ octets16 n)
 

@@ -1,5 +1,5 @@
--- The rewriter's laws: the same is read in its output, which equals its input exactly if no not-received metric had
--- other bits set, and rewriting twice is rewriting once. Assumes nothing.
+-- The rewriter's laws: a reader gets the same answers from its output; rule "When nothing changes"; and a second pass
+-- changes nothing more. Assumes nothing.
 use Prim.Native.Nat.{ℕ, zero, suc, _+_, _<_, _≤_, _^_}
 use mathlib.Core.Path.{_≡_, refl, sym, ap, _∙_}
 use mathlib.Core.List.{List, [], _∷_, _++_, map}
@@ -78,7 +78,7 @@ packet-twice : (p : Packet) → rewritePacket (rewritePacket p) ≡ rewritePacke
 packet-twice p =
     ap (packetWith p) (map-twice rewriteBlock (λ b. ap (blockWith b) (map-twice rewriteMetric metric-twice (b .metrics))) (p .blocks))
 
--- a packet stays as it is exactly if no not-received metric has other bits set
+-- a packet stays as it is exactly if each metric with R = 0 is 0x0000
 pub rewrite-same : (p : Packet) → Clean p → rewritePacket p ≡ p
 rewrite-same p t =
     ap (packetWith p) (map-same rewriteBlock (λ b h. ap (blockWith b) (map-same rewriteMetric metric-same (b .metrics) h)) (p .blocks) t)
@@ -201,14 +201,14 @@ module _ (s : List ℕ) (octets : Octets s) where
         output (λ p o.
         record { size = o .size; same = rw (o .first) (output-same p (o .is)); others = o .others; long = o .long })
 
-    -- it equals the input exactly if no not-received metric had other bits set
+    -- rule "When nothing changes": it equals the input exactly if each metric with R = 0 was 0x0000
     pub rewrite-equal : (p : Packet) → decodePacket s ≡ packet p → Clean p → take n exit ≡ s
     rewrite-equal p e t = output-of p e .first ∙ output-equal p e t
 
     pub equal-rewrite : (p : Packet) → decodePacket s ≡ packet p → take n exit ≡ s → Clean p
     equal-rewrite p e h = equal-output p e (sym (output-of p e .first) ∙ h)
 
-    -- doing it twice is doing it once: rewriting what was written writes just that
+    -- a second pass changes nothing more: rewriting what was written writes just that
     pub twice-once : (again : List ℕ) → n ≤ length again → rewriteOf (decodePacket (take n exit)) again ≡ outputAfter (Written n) (sets again 0 (take n exit))
     twice-once again room =
         output (λ p o.

@@ -23,7 +23,7 @@ use Rattle.report_block.proofs.Metrics.{length-of}
 use Rattle.blocks.proofs.Blocks.{rangeAt, remaining-at, remaining-next, remaining-past}
 use Rattle.packet.specs.Packet as packet
 
--- no packet is over the limit
+-- rule "Within the limit", of a packet of the plan
 pub packet-fits : (limit : ℕ) (w : List CutBlock) → 12 ≤ limit → packetOctets (counts (filledFrom (limit - 12) w .packet)) ≤ limit
 packet-fits limit w h = omega (arith, filled-fits (limit - 12) w)
 
@@ -96,7 +96,7 @@ module _ (metric : ℕ → ℕ → ℕ) (rs : List Request) (sender rts : ℕ) w
     pub writing-room : (p : CutPacket) (c′ : Cutting) → c ≡ p ∷ c′ → end + packetOctets (counts p) ≤ totalOctets c₀
     writing-room p c′ e = omega (arith, g .ends, ap totalOctets e)
 
-    -- and is written into the part of the output that starts at `end`
+    -- and is written to the output from `end` on
     pub writing-on : (p : CutPacket) (c′ : Cutting) (last : List ℕ) (size : ℕ) → c ≡ p ∷ c′ → end ≤ length out → size ≡ packetOctets (counts p)
         → last ≡ sets (midOf end (length out - end) out) 0 (packet.encodePacket (reportPacket metric rs sender rts p))
         → Writing (putMid end (length out - end) out last) (end + size) c′ out₀ c₀

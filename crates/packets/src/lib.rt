@@ -45,7 +45,7 @@ fn write_packet(
     }
 }
 
-// Writes all packets, each into the part of the output that starts where the last one ended.
+// Writes all packets, back to back: each is lent only what is left of the output.
 pub fn write_packets(
     out: &mut [u8],
     limit: usize,

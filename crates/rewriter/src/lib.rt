@@ -1,4 +1,4 @@
-// The rewriter: writes a CCFB packet with each not-received metric set to 0x0000.
+// The rewriter: writes a CCFB packet whose metrics with R = 0 become 0x0000.
 ghost use mathlib.Core.Path.{_≡_};
 ghost use Prim.Native.Nat.{_+_, _≤_};
 ghost use lib.ListN.{length};
@@ -62,7 +62,7 @@ fn rewrite_blocks(packet: &[u8], out: &mut [u8], from: Cursor)
     }
 }
 
-// Writes the packet to the start of the output with each not-received metric set to 0x0000.
+// Writes the packet to the start of the output; its metrics with R = 0 become 0x0000.
 pub fn rewrite(packet: &[u8], out: &mut [u8]) -> Rewriting
     ensures after { λ r. ⌜ outputAfter r (now (out .exit)) ≡ rewriteOf (decodePacket (now (packet .entry))) (now (out .entry)) ⌝ }
 {

@@ -11,8 +11,8 @@ use refusal::Refusal;
 use requests::Verdict;
 use sound_writer::Answer;
 
-// Writes a report on each of the first n requests, packets back to back: refusals 4, 6, 7, then request by request
-// 5, 8, 9, then 10.
+// Writes a report on each of the first n requests, packets back to back: refusals 4, 6, 7; for each request in
+// turn 5, 8, 9; and last 10.
 pub fn write(
     places: &[u64],
     cells: &[u64],

@@ -137,7 +137,7 @@ module _ (places cells : List ℕ) (sender rts limit n : ℕ) (rs : List Request
       (λ e g. let w = ap (λ (x : OutputAfter Answer). x .answer) (given-refused e g) in never (cc))
       (λ a. let w = ap (λ (x : OutputAfter Answer). x .answer) (accepted-written a) in (a, cc, cc))
 
--- no request gives no packet
+-- rule "No request": 0 packets and 0 octets
 pub no-request : (places cells : List ℕ) (sender rts limit : ℕ) (out : List ℕ) → Proper places cells sender rts limit 0 [] out
     → written places cells sender rts limit 0 [] out ≡ outputAfter (Written 0 0) out
 unfolding packetsFrom encodePackets
