@@ -1,24 +1,56 @@
 //! Links libccfb.a from the folder that CCFB_LIB_DIR names, a full path, or from where
-//! scripts/library puts it.
+//! scripts/library puts it. `cargo doc`, `cargo check` and `cargo clippy` need no library.
 
 use std::env;
-use std::path::PathBuf;
+use std::path::Path;
+use std::process::exit;
+
+const LIBRARY: &str = "libccfb.a";
 
 fn main() {
-    println!("cargo:rerun-if-changed=build.rs");
-    println!("cargo:rerun-if-env-changed=CCFB_LIB_DIR");
-    let crate_folder = PathBuf::from(env::var_os("CARGO_MANIFEST_DIR").expect("cargo sets it"));
-    let folder = match env::var_os("CCFB_LIB_DIR") {
-        Some(folder) => PathBuf::from(folder),
-        None => crate_folder.join("../build/ccfb/lib"),
-    };
-    let library = folder.join("libccfb.a");
-    assert!(
-        library.is_file(),
-        "{} is not there: run scripts/library, or set CCFB_LIB_DIR to the folder of libccfb.a",
+    println!("cargo::rerun-if-changed=build.rs");
+    println!("cargo::rerun-if-env-changed=CCFB_LIB_DIR");
+    let beside_the_crate = Path::new(env!("CARGO_MANIFEST_DIR")).with_file_name("build");
+    match env::var_os("CCFB_LIB_DIR") {
+        Some(folder) => link_named(Path::new(&folder)),
+        None => link_built(&beside_the_crate.join("ccfb/lib")),
+    }
+}
+
+/// Links from the folder that the user named, or says why it cannot and fails.
+fn link_named(folder: &Path) {
+    if folder.is_relative() {
+        refuse(&format!(
+            "CCFB_LIB_DIR is {folder:?}: set it to the full path of the folder of {LIBRARY}"
+        ));
+    }
+    if !folder.join(LIBRARY).is_file() {
+        refuse(&format!("CCFB_LIB_DIR is {folder:?}, but that folder has no {LIBRARY}"));
+    }
+    link(folder, "static");
+}
+
+/// Links from the folder of scripts/library. If the library is not there, only linking fails.
+fn link_built(folder: &Path) {
+    let library = folder.join(LIBRARY);
+    if library.is_file() {
+        return link(folder, "static");
+    }
+    println!(
+        "cargo::warning={} is not there, so programs and tests will not link: run \
+         scripts/library, or set CCFB_LIB_DIR to the full path of the folder of {LIBRARY}",
         library.display()
     );
-    println!("cargo:rerun-if-changed={}", library.display());
-    println!("cargo:rustc-link-search=native={}", folder.display());
-    println!("cargo:rustc-link-lib=static=ccfb");
+    link(folder, "static:-bundle"); // not looked for until a program is linked
+}
+
+fn link(folder: &Path, kind: &str) {
+    println!("cargo::rerun-if-changed={}", folder.join(LIBRARY).display());
+    println!("cargo::rustc-link-search=native={}", folder.display());
+    println!("cargo::rustc-link-lib={kind}=ccfb");
+}
+
+fn refuse(why: &str) -> ! {
+    eprintln!("{why}");
+    exit(1)
 }
