@@ -1,28 +1,30 @@
 //! RTCP Congestion Control Feedback (CCFB, [RFC 8888]) for receivers and senders of RTP: a safe
 //! wrapper of the proved library `libccfb.a`.
 //!
-//! - A receiver records what arrives in a [`Store`] and [writes](Store::write) feedback from it.
+//! - A receiver records what arrives in a [`Store`]. For each report a [`Reporter`] makes the
+//!   requests, and the store [writes](StoreOver::write) the packets.
 //! - A sender reads feedback as a [`Packet`].
 //!
-//! The wrapper decides nothing by itself: every answer is the library's. Refusals of what the types
-//! here rule out (a mark above 3, a store of another shape) cannot happen.
-//!
 //! ```
-//! use ccfb::{Mark, Metric, Packet, Refusal, Report, Store, Time};
+//! use ccfb::{Mark, Metric, Packet, Refusal, Report, Reporter, Store, Time};
 //!
 //! # fn main() -> Result<(), Refusal> {
-//! // The receiver: 65535 is lost.
+//! // The receiver: 65535 is lost. A real one takes its times from the clock, see `ntp_time`.
 //! let mut store = Store::<4>::new();
 //! store.arrive(0x0a01, 65534, Mark::Ect0, Time::At(0x0004_8000))?;
 //! store.arrive(0x0a01, 0, Mark::Ce, Time::At(0x0005_0000))?;
 //!
-//! let requests: Vec<_> = store.streams().map(|stream| stream.newest(3)).collect();
+//! // A report, every 50 to 200 ms: what is new since the last, and 16 numbers once more.
+//! let mut reporter = Reporter::new(16);
+//! let requests = reporter.requests(store.streams());
 //! let report = Report { own: 0xf1, rts: 0x0005_0000, limit: 1_200 };
-//! let mut out = [0; 1_200];
+//! let mut out = vec![0; requests.room()];
 //! let mut packets = store.write(report, &requests, &mut out)?;
+//! let sent = packets.next().expect("a packet");
+//! reporter.reported(&requests);
 //!
-//! // The sender.
-//! let packet = Packet::read(packets.next().expect("a packet"))?;
+//! // The sender. The first report starts at the first arrival.
+//! let packet = Packet::read(sent)?;
 //! let block = packet.blocks().next().expect("a block");
 //! let metrics: Vec<_> = block.metrics().collect();
 //! assert_eq!(
@@ -37,24 +39,71 @@
 //! # }
 //! ```
 //!
+//! # Which numbers to report
+//!
+//! **Never report numbers from before the first arrival.** They would be reported as missing, and
+//! a sender takes that for loss: the newest 64 numbers of a stream of which one packet arrived
+//! are 98 % loss. Report what is new since the last report, and a few numbers again for packets
+//! that arrive late. A [`Reporter`] does that, and [`Stream`] has the ranges to do it by hand.
+//!
+//! # What may be trusted
+//!
+//! What is recorded, written and read is decided by the library, whose behaviour is proved. Which
+//! numbers to report and the conversion of times are decided by this crate, and tested. Refusals
+//! of what the types here rule out (a mark above 3, an owned store of another shape) cannot happen,
+//! and no answer of the library makes the crate panic.
+//!
+//! # Features
+//!
+//! - `std` (default): times from [`SystemTime`](std::time::SystemTime). Implies `alloc`.
+//! - `alloc`: [`Store`], which owns its memory.
+//!
+//! Without them the crate is `no_std` and allocates nothing: use [`StoreIn`].
+//!
 //! # Linking
 //!
 //! The environment variable `CCFB_LIB_DIR` gives the full path of the folder of `libccfb.a`.
-//! Without it the crate looks where the product's `scripts/library` puts it.
+//! Without it the crate looks where the product's `scripts/library` puts it. `cargo doc`,
+//! `cargo check` and `cargo clippy` work without the library.
 //!
 //! [RFC 8888]: https://www.rfc-editor.org/rfc/rfc8888
 
+#![no_std]
 #![deny(missing_docs, unsafe_code)]
+#![cfg_attr(not(feature = "std"), allow(rustdoc::broken_intra_doc_links))] // to what it adds
 
+#[cfg(feature = "alloc")]
+extern crate alloc;
+#[cfg(feature = "std")]
+extern crate std;
+
+mod limits;
+mod memory;
 mod metric;
 mod packet;
 mod raw;
 mod refusal;
+mod reporter;
+mod requests;
 mod store;
+mod stream;
+mod time;
 mod write;
 
-pub use metric::{decode_metric, encode_metric, kind, Mark, Metric, Time};
+pub use limits::{room, CELLS_OF_A_PLACE, LIMITS, MOST_PLACES, MOST_REPORTS, MOST_REQUESTS};
+#[cfg(feature = "alloc")]
+pub use memory::Owned;
+pub use memory::{Borrowed, Memory};
+pub use metric::{decode_metric, encode_metric, kind, Mark, Metric};
 pub use packet::{rewrite, Block, Blocks, Metrics, Packet};
 pub use refusal::Refusal;
-pub use store::{Store, Stream};
-pub use write::{Packets, Report, Request};
+pub use reporter::Reporter;
+pub use requests::{Request, Requests};
+#[cfg(feature = "alloc")]
+pub use store::Store;
+pub use store::{StoreIn, StoreOver};
+pub use stream::Stream;
+#[cfg(feature = "std")]
+pub use time::ntp_time;
+pub use time::{ntp_time_from_unix, Time};
+pub use write::{Packets, Report};

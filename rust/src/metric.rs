@@ -1,8 +1,8 @@
 //! What feedback says of one sequence number.
 
-use crate::{raw, Refusal};
-use std::fmt;
-use std::time::Duration;
+use crate::{raw, Refusal, Time};
+use core::fmt;
+use core::time::Duration;
 
 /// An ECN mark (RFC 3168).
 ///
@@ -66,37 +66,6 @@ impl fmt::Display for Mark {
             Mark::Ect0 => "ECT(0)",
             Mark::Ce => "CE",
         })
-    }
-}
-
-/// When a packet arrived.
-///
-/// ```
-/// use ccfb::Time;
-///
-/// assert_eq!(Time::from(Some(7)), Time::At(7));
-/// assert_eq!(Option::from(Time::Unknown), None::<u32>);
-/// ```
-#[derive(Clone, Copy, Debug, PartialEq, Eq, Hash)]
-pub enum Time {
-    /// It arrived at an unknown time.
-    Unknown,
-    /// A count of 1/65536 s: the middle 32 bits of an NTP timestamp.
-    At(u32),
-}
-
-impl From<Option<u32>> for Time {
-    fn from(time: Option<u32>) -> Time {
-        time.map_or(Time::Unknown, Time::At)
-    }
-}
-
-impl From<Time> for Option<u32> {
-    fn from(time: Time) -> Option<u32> {
-        match time {
-            Time::Unknown => None,
-            Time::At(count) => Some(count),
-        }
     }
 }
 

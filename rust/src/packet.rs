@@ -133,8 +133,9 @@ impl<'a> Iterator for Blocks<'a> {
     type Item = Block<'a>;
 
     fn next(&mut self) -> Option<Block<'a>> {
+        let left = self.left.checked_sub(1)?;
         let block = raw::next_block(self.octets, &mut self.at).ok()?;
-        self.left -= 1;
+        self.left = left;
         Some(block)
     }
 
@@ -244,7 +245,7 @@ impl<'a> Block<'a> {
 
     /// Each number with its metric.
     pub fn metrics(&self) -> Metrics<'a> {
-        Metrics { block: *self, next: 0 }
+        Metrics { block: *self, left: self.count }
     }
 }
 
@@ -252,22 +253,22 @@ impl<'a> Block<'a> {
 #[derive(Clone, Debug)]
 pub struct Metrics<'a> {
     block: Block<'a>,
-    next: u16,
+    left: u16,
 }
 
 impl Iterator for Metrics<'_> {
     type Item = (u16, Metric);
 
     fn next(&mut self) -> Option<(u16, Metric)> {
-        let metric = self.block.metric(self.next.into()).ok()?;
-        let number = self.block.begin.wrapping_add(self.next);
-        self.next += 1;
-        Some((number, metric))
+        let left = self.left.checked_sub(1)?;
+        let j = self.block.count - self.left;
+        let metric = self.block.metric(j.into()).ok()?;
+        self.left = left;
+        Some((self.block.begin.wrapping_add(j), metric))
     }
 
     fn size_hint(&self) -> (usize, Option<usize>) {
-        let left = usize::from(self.block.count - self.next);
-        (left, Some(left))
+        (self.left.into(), Some(self.left.into()))
     }
 }
 

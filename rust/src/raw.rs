@@ -5,6 +5,7 @@
 
 #![allow(unsafe_code)]
 
+use crate::memory::{Words, WordsMut};
 use crate::{kind, Block, Mark, Metric, Refusal, Report, Request, Stream, Time};
 
 // As in include/ccfb.h; a call writes its outputs through references.
@@ -13,7 +14,7 @@ extern "C" {
     fn ccfb_encode_metric(
         mark: u8, time_known: bool, time: u32, rts: u32, metric: &mut u16,
     ) -> u8;
-    fn ccfb_decode_metric(metric: u16, mark: &mut u8, offset: &mut u16) -> u8;
+    fn ccfb_decode_metric(metric: u16, kind: &mut u8, mark: &mut u8, offset: &mut u16);
     fn ccfb_arrive(
         places: *mut u64, places_len: usize, cells: *mut u64, cells_len: usize,
         ssrc: u32, number: u16, mark: u8, time_known: bool, time: u32,
@@ -24,6 +25,10 @@ extern "C" {
     fn ccfb_place(
         places: *const u64, places_len: usize, cells: *const u64, cells_len: usize,
         k: usize, ssrc: &mut u32, highest: &mut u16,
+    ) -> u8;
+    fn ccfb_oldest(
+        places: *const u64, places_len: usize, cells: *const u64, cells_len: usize,
+        k: usize, oldest: &mut u16,
     ) -> u8;
     fn ccfb_write(
         places: *const u64, places_len: usize, cells: *const u64, cells_len: usize,
@@ -64,7 +69,7 @@ extern "C" {
 fn answer<T>(refused: u8, value: T) -> Result<T, Refusal> {
     match refused {
         0 => Ok(value),
-        number => Err(Refusal::of_number(number).expect("a libccfb.a of this crate's version")),
+        number => Err(Refusal::of_answer(number)),
     }
 }
 
@@ -96,27 +101,20 @@ pub fn encode_metric(mark: Mark, time: Time, rts: u32) -> u16 {
 }
 
 pub fn decode_metric(metric: u16) -> Metric {
-    let (mut mark, mut offset) = (0, 0);
+    let (mut kind, mut mark, mut offset) = (0, 0, 0);
     // SAFETY: the pointers are references.
-    let kind = unsafe { ccfb_decode_metric(metric, &mut mark, &mut offset) };
+    unsafe { ccfb_decode_metric(metric, &mut kind, &mut mark, &mut offset) };
     metric_of(kind, mark, offset)
 }
 
-/// The two arrays of a store.
-#[derive(Clone)]
-pub struct Words {
-    pub places: Box<[u64]>,
-    pub cells: Box<[u64]>,
-}
-
 pub fn arrive(
-    words: &mut Words,
+    words: WordsMut<'_>,
     ssrc: u32,
     number: u16,
     mark: Mark,
     time: Time,
 ) -> Result<(), Refusal> {
-    let Words { places, cells } = words;
+    let WordsMut { places, cells } = words;
     let (time_known, time) = flagged(time);
     // SAFETY: each pointer is passed with the length of its slice.
     let refused = unsafe {
@@ -135,8 +133,8 @@ pub fn arrive(
     answer(refused, ())
 }
 
-pub fn forget(words: &mut Words, ssrc: u32) -> Result<(), Refusal> {
-    let Words { places, cells } = words;
+pub fn forget(words: WordsMut<'_>, ssrc: u32) -> Result<(), Refusal> {
+    let WordsMut { places, cells } = words;
     // SAFETY: each pointer is passed with the length of its slice.
     let refused = unsafe {
         ccfb_forget(places.as_mut_ptr(), places.len(), cells.as_ptr(), cells.len(), ssrc)
@@ -144,9 +142,9 @@ pub fn forget(words: &mut Words, ssrc: u32) -> Result<(), Refusal> {
     answer(refused, ())
 }
 
-pub fn place(words: &Words, k: usize) -> Result<Stream, Refusal> {
+pub fn place(words: Words<'_>, k: usize) -> Result<Stream, Refusal> {
     let Words { places, cells } = words;
-    let mut held = Stream { ssrc: 0, highest: 0 };
+    let (mut ssrc, mut highest) = (0, 0);
     // SAFETY: each pointer is passed with the length of its slice; the others are references.
     let refused = unsafe {
         ccfb_place(
@@ -155,16 +153,28 @@ pub fn place(words: &Words, k: usize) -> Result<Stream, Refusal> {
             cells.as_ptr(),
             cells.len(),
             k,
-            &mut held.ssrc,
-            &mut held.highest,
+            &mut ssrc,
+            &mut highest,
         )
     };
-    answer(refused, held)
+    answer(refused, ())?;
+    let oldest = oldest(words, k)?;
+    Ok(Stream { ssrc, highest, oldest })
+}
+
+fn oldest(words: Words<'_>, k: usize) -> Result<u16, Refusal> {
+    let Words { places, cells } = words;
+    let mut oldest = 0;
+    // SAFETY: each pointer is passed with the length of its slice; the other is a reference.
+    let refused = unsafe {
+        ccfb_oldest(places.as_ptr(), places.len(), cells.as_ptr(), cells.len(), k, &mut oldest)
+    };
+    answer(refused, oldest)
 }
 
 /// How many packets, and their total length in octets.
 pub fn write(
-    words: &Words,
+    words: Words<'_>,
     report: Report,
     requests: &[Request],
     out: &mut [u8],
@@ -201,6 +211,12 @@ pub fn read(packet: &[u8]) -> Result<(u32, u32, usize), Refusal> {
     answer(refused, (sender, rts, blocks))
 }
 
+/// The octets from `at` on. Those that the library answers with are in the packet.
+fn part_of(packet: &[u8], at: usize, length: usize) -> Result<&[u8], Refusal> {
+    let from = packet.get(at..).unwrap_or_default();
+    from.get(..length).ok_or(Refusal::RunsIntoRts)
+}
+
 pub fn block(packet: &[u8], k: usize) -> Result<Block<'_>, Refusal> {
     let (octets, len) = (packet.as_ptr(), packet.len());
     let (mut ssrc, mut begin, mut count) = (0, 0, 0);
@@ -211,8 +227,9 @@ pub fn block(packet: &[u8], k: usize) -> Result<Block<'_>, Refusal> {
     // SAFETY: as above.
     let refused =
         unsafe { ccfb_block_metrics(octets, len, k, &mut metrics_at, &mut metrics_length) };
-    let part = &packet[metrics_at..metrics_at + metrics_length];
-    answer(refused, Block { ssrc, begin, count, part })
+    answer(refused, ())?;
+    let part = part_of(packet, metrics_at, metrics_length)?;
+    Ok(Block { ssrc, begin, count, part })
 }
 
 /// Metric j of block k, with its number.
@@ -241,8 +258,9 @@ pub fn next_block<'a>(packet: &'a [u8], at: &mut usize) -> Result<Block<'a>, Ref
     let refused = unsafe {
         ccfb_next_block(octets, len, at, &mut ssrc, &mut begin, &mut count, &mut metrics_at)
     };
-    let part = &packet[metrics_at..metrics_at + 2 * usize::from(count)];
-    answer(refused, Block { ssrc, begin, count, part })
+    answer(refused, ())?;
+    let part = part_of(packet, metrics_at, 2 * usize::from(count))?;
+    Ok(Block { ssrc, begin, count, part })
 }
 
 /// Metric j of a part that holds the metrics of a block.

@@ -1,7 +1,7 @@
 //! The refusals.
 
-use std::error::Error;
-use std::fmt;
+use core::error::Error;
+use core::fmt;
 
 /// Makes the enum, its numbers and its texts from one list.
 macro_rules! refusals {
@@ -16,13 +16,16 @@ macro_rules! refusals {
         /// assert_eq!(refusal.to_string(), "refused 21: packet under 12 octets");
         /// ```
         #[derive(Clone, Copy, Debug, PartialEq, Eq, Hash)]
-        #[repr(u8)]
+        #[non_exhaustive]
         pub enum Refusal {
-            $(#[doc = concat!($number, ": ", $meaning, ".")] $name = $number,)*
+            $(#[doc = concat!($number, ": ", $meaning, ".")] $name,)*
+            /// A number that this version of the crate does not know, from a later library.
+            #[non_exhaustive]
+            Unknown(u8),
         }
 
         impl Refusal {
-            /// Every refusal, in the order of the numbers.
+            /// Every refusal that the crate knows, in the order of the numbers.
             ///
             /// ```
             /// assert_eq!(ccfb::Refusal::ALL[0], ccfb::Refusal::BadMark);
@@ -37,6 +40,19 @@ macro_rules! refusals {
             pub fn meaning(self) -> &'static str {
                 match self {
                     $(Refusal::$name => $meaning,)*
+                    Refusal::Unknown(_) => "unknown refusal",
+                }
+            }
+
+            /// Its number, as in C.
+            ///
+            /// ```
+            /// assert_eq!(ccfb::Refusal::TooOld.number(), 3);
+            /// ```
+            pub fn number(self) -> u8 {
+                match self {
+                    $(Refusal::$name => $number,)*
+                    Refusal::Unknown(number) => number,
                 }
             }
         }
@@ -47,7 +63,7 @@ refusals! {
     1 BadMark "mark above 3"
     2 NoFreePlace "unknown stream and no free place"
     3 TooOld "sequence number too old"
-    4 BadStore "store without a place, with more than 16, or with parts whose lengths disagree"
+    4 BadStore "not 1 to 16 places, or not 2,048 cells for each"
     5 NotHeld "stream not held, or the place asked for is free or not there"
     6 BadLimit "size limit outside 24 to 9,000"
     7 TooManyRequests "more than 16 requests"
@@ -72,16 +88,7 @@ refusals! {
 }
 
 impl Refusal {
-    /// Its number, as in C.
-    ///
-    /// ```
-    /// assert_eq!(ccfb::Refusal::TooOld.number(), 3);
-    /// ```
-    pub fn number(self) -> u8 {
-        self as u8
-    }
-
-    /// The refusal of that number.
+    /// The refusal of that number, if the crate knows it.
     ///
     /// ```
     /// use ccfb::Refusal;
@@ -92,6 +99,11 @@ impl Refusal {
     pub fn of_number(number: u8) -> Option<Refusal> {
         Refusal::ALL.iter().copied().find(|refusal| refusal.number() == number)
     }
+
+    /// The refusal that a call of the library answered.
+    pub(crate) fn of_answer(number: u8) -> Refusal {
+        Refusal::of_number(number).unwrap_or(Refusal::Unknown(number))
+    }
 }
 
 impl fmt::Display for Refusal {
@@ -101,3 +113,20 @@ impl fmt::Display for Refusal {
 }
 
 impl Error for Refusal {}
+
+#[cfg(test)]
+mod tests {
+    extern crate std;
+
+    use super::Refusal;
+    use std::string::ToString;
+
+    #[test]
+    fn every_number_is_a_refusal() {
+        for number in 0..=u8::MAX {
+            assert_eq!(Refusal::of_answer(number).number(), number);
+        }
+        assert_eq!(Refusal::of_answer(3), Refusal::TooOld);
+        assert_eq!(Refusal::of_answer(99).to_string(), "refused 99: unknown refusal");
+    }
+}

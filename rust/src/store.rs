@@ -1,16 +1,13 @@
 //! The store of arrivals.
 
-use crate::raw::{self, Words};
-use crate::{Mark, Packets, Refusal, Report, Request, Time};
-use std::fmt;
+#[cfg(feature = "alloc")]
+use crate::memory::Owned;
+use crate::memory::{Borrowed, Memory};
+use crate::{raw, Mark, Packets, Refusal, Report, Request, Stream, Time};
+use core::fmt;
 
-const MOST_PLACES: usize = 16;
-
-/// A place has a cell for each number of its stream's window.
-const CELLS_OF_A_PLACE: usize = 2_048;
-
-/// What arrived of up to `PLACES` RTP streams, 1 to 16: for each stream its highest sequence
-/// number H, and which of the 2,048 numbers up to H arrived, when, and with which mark.
+/// A store that owns its memory, for up to `PLACES` streams, 1 to 16. Needs the feature `alloc`.
+/// Its methods are those of [`StoreOver`].
 ///
 /// ```
 /// use ccfb::{Mark, Refusal, Store, Time};
@@ -25,49 +22,113 @@ const CELLS_OF_A_PLACE: usize = 2_048;
 /// ```compile_fail
 /// ccfb::Store::<17>::new();
 /// ```
+#[cfg(feature = "alloc")]
+pub type Store<const PLACES: usize> = StoreOver<Owned<PLACES>>;
+
+/// A store in memory that it borrows: static memory, or memory for a number of places that is only
+/// known at run time. It allocates nothing. Its methods are those of [`StoreOver`].
+///
+/// What is in the memory is kept, and zeroed memory is a fresh store. So the store may be made
+/// anew for each use, at the cost of a look at the two lengths.
+///
+/// In static memory:
+///
+/// ```
+/// use ccfb::{Mark, Refusal, StoreIn, Time, CELLS_OF_A_PLACE};
+/// use std::sync::Mutex;
+///
+/// const PLACES: usize = 4;
+/// struct Memory {
+///     places: [u64; PLACES],
+///     cells: [u64; PLACES * CELLS_OF_A_PLACE],
+/// }
+/// static MEMORY: Mutex<Memory> =
+///     Mutex::new(Memory { places: [0; PLACES], cells: [0; PLACES * CELLS_OF_A_PLACE] });
+///
+/// fn on_packet(ssrc: u32, number: u16, mark: Mark, time: Time) -> Result<(), Refusal> {
+///     let memory = &mut *MEMORY.lock().expect("no thread panics with the lock");
+///     StoreIn::new(&mut memory.places, &mut memory.cells)?.arrive(ssrc, number, mark, time)
+/// }
+///
+/// on_packet(7, 100, Mark::Ect1, Time::At(1))?;
+/// on_packet(7, 101, Mark::Ect1, Time::At(2))?;
+/// let memory = &mut *MEMORY.lock().expect("no thread panics with the lock");
+/// let store = StoreIn::new(&mut memory.places, &mut memory.cells)?;
+/// assert_eq!(store.place(0)?.highest, 101);
+/// # Ok::<(), Refusal>(())
+/// ```
+///
+/// With a number of places that is known at run time:
+///
+/// ```
+/// use ccfb::{Mark, Refusal, StoreIn, Time, CELLS_OF_A_PLACE};
+///
+/// let streams_offered = "3".parse().unwrap_or(1);
+/// let mut places = vec![0; streams_offered];
+/// let mut cells = vec![0; streams_offered * CELLS_OF_A_PLACE];
+/// let mut store = StoreIn::new(&mut places, &mut cells)?;
+/// store.arrive(7, 100, Mark::Ect1, Time::At(1))?;
+/// # Ok::<(), Refusal>(())
+/// ```
+pub type StoreIn<'a> = StoreOver<Borrowed<'a>>;
+
+/// What arrived of up to 16 RTP streams: for each stream its highest sequence number H, and which
+/// of the 2,048 numbers up to H arrived, when, and with which mark.
+///
+/// `Store` owns its memory, and [`StoreIn`] borrows it. Each place for a stream takes 16 KiB and 8
+/// octets. A function that takes either is one over any [`Memory`]:
+///
+/// ```
+/// use ccfb::{Memory, StoreOver};
+///
+/// fn is_idle<M: Memory>(store: &StoreOver<M>) -> bool {
+///     store.streams().next().is_none()
+/// }
+/// assert!(is_idle(&ccfb::Store::<2>::new()));
+/// ```
 #[derive(Clone)]
-pub struct Store<const PLACES: usize> {
-    words: Words,
+pub struct StoreOver<M> {
+    memory: M,
 }
 
-/// A stream that a place holds.
-#[derive(Clone, Copy, Debug, PartialEq, Eq, Hash)]
-pub struct Stream {
-    /// Its SSRC.
-    pub ssrc: u32,
-    /// Its highest sequence number H.
-    pub highest: u16,
-}
-
-impl Stream {
-    /// The request for its newest `count` numbers.
-    ///
-    /// ```
-    /// use ccfb::{Request, Stream};
-    ///
-    /// let stream = Stream { ssrc: 7, highest: 1 };
-    /// assert_eq!(stream.newest(4), Request { ssrc: 7, begin: 65534, count: 4 });
-    /// ```
-    pub fn newest(self, count: u16) -> Request {
-        let back = count.saturating_sub(1);
-        Request { ssrc: self.ssrc, begin: self.highest.wrapping_sub(back), count }
-    }
-}
-
-impl<const PLACES: usize> Store<PLACES> {
-    const PLACES_IN_RANGE: () = assert!(1 <= PLACES && PLACES <= MOST_PLACES, "1 to 16 places");
-
+#[cfg(feature = "alloc")]
+impl<const PLACES: usize> StoreOver<Owned<PLACES>> {
     /// A fresh store: every place is free.
     ///
     /// ```
     /// assert_eq!(ccfb::Store::<16>::new().streams().count(), 0);
     /// ```
     pub fn new() -> Store<PLACES> {
-        let () = Self::PLACES_IN_RANGE;
-        let zeroed = |words| vec![0; words].into_boxed_slice();
-        Store { words: Words { places: zeroed(PLACES), cells: zeroed(CELLS_OF_A_PLACE * PLACES) } }
+        StoreOver { memory: Owned::zeroed() }
     }
+}
 
+impl<'a> StoreOver<Borrowed<'a>> {
+    /// The store that is in this memory: a word for each place, and
+    /// [`CELLS_OF_A_PLACE`](crate::CELLS_OF_A_PLACE) words of cells for each.
+    ///
+    /// # Errors
+    ///
+    /// [`Refusal::BadStore`] if there are not 1 to 16 places, or not so many cells.
+    ///
+    /// ```
+    /// use ccfb::{Refusal, StoreIn};
+    ///
+    /// let mut cells = [0; 4_096];
+    /// assert!(StoreIn::new(&mut [0; 2], &mut cells).is_ok());
+    /// assert_eq!(StoreIn::new(&mut [0; 3], &mut cells).err(), Some(Refusal::BadStore));
+    /// ```
+    pub fn new(places: &'a mut [u64], cells: &'a mut [u64]) -> Result<StoreIn<'a>, Refusal> {
+        let store = StoreOver { memory: Borrowed::new(places, cells) };
+        // No store has this place, so the answer is about the two lengths.
+        match store.place(usize::MAX) {
+            Ok(_) | Err(Refusal::NotHeld) => Ok(store),
+            Err(refusal) => Err(refusal),
+        }
+    }
+}
+
+impl<M: Memory> StoreOver<M> {
     /// Records an arrival. A copy keeps the first one's time and mark, except that the mark becomes
     /// [`Mark::Ce`] if any copy carried it.
     ///
@@ -91,10 +152,11 @@ impl<const PLACES: usize> Store<PLACES> {
         mark: Mark,
         time: Time,
     ) -> Result<(), Refusal> {
-        raw::arrive(&mut self.words, ssrc, number, mark, time)
+        raw::arrive(self.memory.words_mut(), ssrc, number, mark, time)
     }
 
-    /// Forgets a stream and frees its place. Its history starts anew with its next arrival.
+    /// Forgets a stream and frees its place. Its history starts anew with its next arrival: a
+    /// [`Reporter`](crate::Reporter::forget) must forget it too.
     ///
     /// # Errors
     ///
@@ -110,7 +172,7 @@ impl<const PLACES: usize> Store<PLACES> {
     /// # Ok::<(), Refusal>(())
     /// ```
     pub fn forget(&mut self, ssrc: u32) -> Result<(), Refusal> {
-        raw::forget(&mut self.words, ssrc)
+        raw::forget(self.memory.words_mut(), ssrc)
     }
 
     /// The stream that place `k`, from 0, holds.
@@ -124,12 +186,13 @@ impl<const PLACES: usize> Store<PLACES> {
     ///
     /// let mut store = Store::<4>::new();
     /// store.arrive(7, 100, Mark::Ect0, Time::At(1))?;
-    /// assert_eq!(store.place(0), Ok(Stream { ssrc: 7, highest: 100 }));
+    /// store.arrive(7, 103, Mark::Ect0, Time::At(2))?;
+    /// assert_eq!(store.place(0), Ok(Stream { ssrc: 7, highest: 103, oldest: 100 }));
     /// assert_eq!(store.place(1), Err(Refusal::NotHeld));
     /// # Ok::<(), Refusal>(())
     /// ```
     pub fn place(&self, k: usize) -> Result<Stream, Refusal> {
-        raw::place(&self.words, k)
+        raw::place(self.memory.words(), k)
     }
 
     /// The streams held, in the order of their places.
@@ -146,12 +209,13 @@ impl<const PLACES: usize> Store<PLACES> {
     /// # Ok::<(), Refusal>(())
     /// ```
     pub fn streams(&self) -> impl Iterator<Item = Stream> + '_ {
-        (0..PLACES).filter_map(|k| self.place(k).ok())
+        (0..self.memory.words().places.len()).filter_map(|k| self.place(k).ok())
     }
 
     /// Writes feedback on the requests to the start of `out`: the fewest packets possible of at
-    /// most `report.limit` octets each, back to back. The rest of `out` stays as it was. An `out`
-    /// of 12 octets for each number asked for and 20 for each request is always long enough.
+    /// most `report.limit` octets each, back to back. The rest of `out` stays as it was.
+    /// [`Requests::room`](crate::Requests::room) and [`room`](crate::room) say how long an `out`
+    /// is always enough. A [`Reporter`](crate::Reporter) makes the requests.
     ///
     /// # Errors
     ///
@@ -176,11 +240,13 @@ impl<const PLACES: usize> Store<PLACES> {
         requests: &[Request],
         out: &'o mut [u8],
     ) -> Result<Packets<'o>, Refusal> {
-        let (packets, octets) = raw::write(&self.words, report, requests, out)?;
-        Ok(Packets::new(packets, &out[..octets]))
+        let (packets, octets) = raw::write(self.memory.words(), report, requests, out)?;
+        let written = out.get(..octets).ok_or(Refusal::OutputTooShort)?;
+        Ok(Packets::new(packets, written))
     }
 }
 
+#[cfg(feature = "alloc")]
 impl<const PLACES: usize> Default for Store<PLACES> {
     fn default() -> Store<PLACES> {
         Store::new()
@@ -188,7 +254,7 @@ impl<const PLACES: usize> Default for Store<PLACES> {
 }
 
 /// Shows the streams held, but not the many cells.
-impl<const PLACES: usize> fmt::Debug for Store<PLACES> {
+impl<M: Memory> fmt::Debug for StoreOver<M> {
     fn fmt(&self, f: &mut fmt::Formatter<'_>) -> fmt::Result {
         f.debug_list().entries(self.streams()).finish()
     }

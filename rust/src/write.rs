@@ -1,29 +1,13 @@
 //! What the writer takes and returns.
 
-/// A request for feedback on `count` numbers of a stream, starting at `begin`.
-///
-/// They must lie in the stream's window: (H - begin) modulo 65536 is below 2,048 and at least
-/// count - 1. A count of 0 asks for an empty block and needs begin = H.
-/// [`Stream::newest`](crate::Stream::newest) makes a request that meets this.
-#[derive(Clone, Copy, Debug, PartialEq, Eq, Hash)]
-#[repr(C)]
-pub struct Request {
-    /// The stream's SSRC.
-    pub ssrc: u32,
-    /// The first number.
-    pub begin: u16,
-    /// How many numbers.
-    pub count: u16,
-}
-
 /// What the packets of one report have in common.
 #[derive(Clone, Copy, Debug, PartialEq, Eq, Hash)]
 pub struct Report {
     /// The SSRC of the packets' sender.
     pub own: u32,
-    /// The report timestamp, in 1/65536 s.
+    /// The report timestamp, in 1/65536 s: see [`ntp_time`](crate::ntp_time).
     pub rts: u32,
-    /// The most octets that a packet may have, 24 to 9,000.
+    /// The most octets that a packet may have, 24 to 9,000: see [`LIMITS`](crate::LIMITS).
     pub limit: usize,
 }
 
@@ -33,9 +17,11 @@ pub struct Report {
 /// use ccfb::{Mark, Refusal, Report, Store, Time};
 ///
 /// let mut store = Store::<2>::new();
-/// store.arrive(7, 100, Mark::Ect0, Time::At(1))?;
-/// store.arrive(9, 500, Mark::Ect0, Time::At(2))?;
-/// let requests: Vec<_> = store.streams().map(|stream| stream.newest(4)).collect();
+/// for ssrc in [7, 9] {
+///     store.arrive(ssrc, 100, Mark::Ect0, Time::At(1))?;
+///     store.arrive(ssrc, 103, Mark::Ect0, Time::At(2))?;
+/// }
+/// let requests: Vec<_> = store.streams().map(|stream| stream.all()).collect();
 /// let report = Report { own: 1, rts: 66, limit: 32 };
 /// let mut out = [0; 100];
 /// let packets = store.write(report, &requests, &mut out)?;
@@ -65,11 +51,11 @@ impl<'o> Iterator for Packets<'o> {
 
     /// A packet ends where its length field says.
     fn next(&mut self) -> Option<&'o [u8]> {
-        let length = self.octets.get(2..4)?;
-        let words = 1 + usize::from(u16::from_be_bytes([length[0], length[1]]));
-        let (packet, rest) = self.octets.split_at(4 * words);
-        self.octets = rest;
-        self.left -= 1;
+        let left = self.left.checked_sub(1)?;
+        let &[_, _, high, low, ..] = self.octets else { return None };
+        let words = 1 + usize::from(u16::from_be_bytes([high, low]));
+        let (packet, rest) = self.octets.split_at_checked(4 * words)?;
+        *self = Packets { left, octets: rest };
         Some(packet)
     }
 
@@ -79,3 +65,17 @@ impl<'o> Iterator for Packets<'o> {
 }
 
 impl ExactSizeIterator for Packets<'_> {}
+
+#[cfg(test)]
+mod tests {
+    use super::Packets;
+
+    #[test]
+    fn packets_that_are_not_whole_end_the_iterator() {
+        for octets in [&[] as &[u8], &[0; 3], &[0x8b, 0xcd, 0, 2, 0, 0, 0, 0xf1, 0, 0, 0]] {
+            assert_eq!(Packets::new(1, octets).next(), None);
+        }
+        assert_eq!(Packets::new(1, &[0; 8]).count(), 1);
+        assert_eq!(Packets::new(3, &[0; 8]).count(), 2);
+    }
+}

@@ -1,6 +1,8 @@
 //! Case P: two arrivals, their feedback, and the feedback read.
 
-use ccfb::{kind, rewrite, Mark, Metric, Packet, Refusal, Report, Store, Time};
+#![cfg(feature = "alloc")]
+
+use ccfb::{kind, rewrite, Mark, Metric, Packet, Refusal, Report, Request, Store, Time};
 
 const PACKET: [u8; 28] = *b"\x8b\xcd\x00\x06\x00\x00\x00\xf1\x00\x00\x0a\x01\xff\xfd\x00\x04\
     \x00\x00\xc2\x00\x00\x00\xe0\x00\x00\x05\x00\x00";
@@ -10,10 +12,11 @@ fn written() -> Result<(), Refusal> {
     let mut store = Store::<4>::new();
     store.arrive(0x0a01, 0xfffe, Mark::Ect0, Time::At(0x0004_8000))?;
     store.arrive(0x0a01, 0x0000, Mark::Ce, Time::At(0x0005_0000))?;
-    let stream = store.place(0)?;
+    // The newest four, though the first did not arrive: the case asks for them.
+    let request = Request { ssrc: 0x0a01, begin: 0xfffd, count: 4 };
     let report = Report { own: 0xf1, rts: 0x0005_0000, limit: 1_200 };
     let mut out = [0xee; 29];
-    let packets = store.write(report, &[stream.newest(4)], &mut out)?;
+    let packets = store.write(report, &[request], &mut out)?;
     assert_eq!(packets.collect::<Vec<_>>(), [PACKET]);
     assert_eq!(out[28], 0xee);
     Ok(())

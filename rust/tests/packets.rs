@@ -1,12 +1,19 @@
 //! How the writer cuts requests into packets.
 
+#![cfg(feature = "alloc")]
+
 mod common;
 
-use ccfb::{Packet, Refusal, Report, Request, Store};
+use ccfb::{room, Packet, Refusal, Report, Request, Store};
 use common::store_with;
 
+/// The newest numbers of each stream, whether they arrived or not.
 fn requests(store: &Store<2>, counts: [u16; 2]) -> Vec<Request> {
-    store.streams().zip(counts).map(|(stream, count)| stream.newest(count)).collect()
+    let newest = |(stream, count): (ccfb::Stream, u16)| {
+        let begin = stream.highest.wrapping_sub(count.saturating_sub(1));
+        Request { ssrc: stream.ssrc, begin, count }
+    };
+    store.streams().zip(counts).map(newest).collect()
 }
 
 #[test]
@@ -31,13 +38,13 @@ fn no_request_gives_no_packet() -> Result<(), Refusal> {
 }
 
 #[test]
-fn twelve_octets_a_number_and_twenty_a_request_are_room_enough() -> Result<(), Refusal> {
+fn room_is_enough() -> Result<(), Refusal> {
     let store = store_with(3);
     for limit in 24..64 {
         for counts in (0..12).flat_map(|first| (0..12).map(move |second| [first, second])) {
             let requests = requests(&store, counts);
             let asked: u16 = counts.iter().sum();
-            let mut out = vec![0; 12 * usize::from(asked) + 20 * requests.len()];
+            let mut out = vec![0; room(asked.into(), requests.len())];
             let packets = store.write(Report { own: 1, rts: 2, limit }, &requests, &mut out)?;
             let mut reported = 0;
             for octets in packets {

@@ -1,5 +1,7 @@
 //! Every refusal that a call of the crate can return, and their order.
 
+#![cfg(feature = "alloc")]
+
 mod common;
 
 use ccfb::{rewrite, Mark, Packet, Refusal, Report, Request, Time};

@@ -1,0 +1,89 @@
+//! The memory of a store.
+
+#[cfg(feature = "alloc")]
+use alloc::{boxed::Box, vec};
+
+#[cfg(feature = "alloc")]
+use crate::{CELLS_OF_A_PLACE, MOST_PLACES};
+
+/// The two arrays of a store.
+#[derive(Clone, Copy)]
+pub struct Words<'s> {
+    pub places: &'s [u64],
+    pub cells: &'s [u64],
+}
+
+/// The two arrays of a store, to change them.
+pub struct WordsMut<'s> {
+    pub places: &'s mut [u64],
+    pub cells: &'s mut [u64],
+}
+
+/// What has the two arrays of a store. They are of the lengths that the library asks for.
+pub trait HasWords {
+    fn words(&self) -> Words<'_>;
+    fn words_mut(&mut self) -> WordsMut<'_>;
+}
+
+/// The memory of a store: `Owned` or [`Borrowed`]. Only this crate implements it.
+pub trait Memory: HasWords {}
+
+/// Memory on the heap for so many places, 1 to 16. Needs the feature `alloc`.
+///
+/// It is not kept in the value itself, since a place takes 16 KiB: 16 of them on the stack, moved
+/// about, would overflow that of many a thread.
+#[cfg(feature = "alloc")]
+#[derive(Clone)]
+pub struct Owned<const PLACES: usize> {
+    places: Box<[u64]>,
+    cells: Box<[u64]>,
+}
+
+#[cfg(feature = "alloc")]
+impl<const PLACES: usize> Owned<PLACES> {
+    const PLACES_IN_RANGE: () = assert!(1 <= PLACES && PLACES <= MOST_PLACES, "1 to 16 places");
+
+    pub(crate) fn zeroed() -> Owned<PLACES> {
+        let () = Self::PLACES_IN_RANGE;
+        let zeroed = |words| vec![0; words].into_boxed_slice();
+        Owned { places: zeroed(PLACES), cells: zeroed(CELLS_OF_A_PLACE * PLACES) }
+    }
+}
+
+#[cfg(feature = "alloc")]
+impl<const PLACES: usize> HasWords for Owned<PLACES> {
+    fn words(&self) -> Words<'_> {
+        Words { places: &self.places, cells: &self.cells }
+    }
+
+    fn words_mut(&mut self) -> WordsMut<'_> {
+        WordsMut { places: &mut self.places, cells: &mut self.cells }
+    }
+}
+
+#[cfg(feature = "alloc")]
+impl<const PLACES: usize> Memory for Owned<PLACES> {}
+
+/// Memory that the store borrows.
+pub struct Borrowed<'a> {
+    places: &'a mut [u64],
+    cells: &'a mut [u64],
+}
+
+impl<'a> Borrowed<'a> {
+    pub(crate) fn new(places: &'a mut [u64], cells: &'a mut [u64]) -> Borrowed<'a> {
+        Borrowed { places, cells }
+    }
+}
+
+impl HasWords for Borrowed<'_> {
+    fn words(&self) -> Words<'_> {
+        Words { places: self.places, cells: self.cells }
+    }
+
+    fn words_mut(&mut self) -> WordsMut<'_> {
+        WordsMut { places: self.places, cells: self.cells }
+    }
+}
+
+impl Memory for Borrowed<'_> {}

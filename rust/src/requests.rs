@@ -1,0 +1,75 @@
+//! What a report is asked for.
+
+use crate::{room, MOST_REQUESTS};
+use core::fmt;
+use core::ops::Deref;
+
+/// A request for feedback on `count` numbers of a stream, starting at `begin`.
+///
+/// They must lie in the stream's window: (H - begin) modulo 65536 is below 2,048 and at least
+/// count - 1. A count of 0 asks for an empty block and needs begin = H. The requests that
+/// [`Stream`](crate::Stream) makes meet this.
+#[derive(Clone, Copy, Debug, PartialEq, Eq, Hash)]
+#[repr(C)]
+pub struct Request {
+    /// The stream's SSRC.
+    pub ssrc: u32,
+    /// The first number.
+    pub begin: u16,
+    /// How many numbers.
+    pub count: u16,
+}
+
+impl Request {
+    /// The last number that it asks for; H if it asks for an empty block.
+    pub(crate) fn last(self) -> u16 {
+        self.begin.wrapping_add(self.count.saturating_sub(1))
+    }
+}
+
+/// The requests of one report, for no stream twice: a slice of them, without a heap.
+#[derive(Clone)]
+pub struct Requests {
+    list: [Request; MOST_REQUESTS],
+    count: usize,
+}
+
+impl Requests {
+    pub(crate) const NONE: Requests =
+        Requests { list: [Request { ssrc: 0, begin: 0, count: 0 }; MOST_REQUESTS], count: 0 };
+
+    /// Octets of output that are enough for a report on them, whatever the limit.
+    pub fn room(&self) -> usize {
+        let numbers = self.iter().map(|request| usize::from(request.count)).sum();
+        room(numbers, self.len())
+    }
+
+    /// The request for the stream.
+    pub(crate) fn of(&self, ssrc: u32) -> Option<Request> {
+        self.iter().copied().find(|request| request.ssrc == ssrc)
+    }
+
+    /// Adds a request, or replaces the one for the same stream. There is no 17th.
+    pub(crate) fn put(&mut self, request: Request) {
+        let same = self.iter().position(|earlier| earlier.ssrc == request.ssrc);
+        let at = same.unwrap_or(self.count);
+        if let Some(entry) = self.list.get_mut(at) {
+            *entry = request;
+            self.count = self.count.max(at + 1);
+        }
+    }
+}
+
+impl Deref for Requests {
+    type Target = [Request];
+
+    fn deref(&self) -> &[Request] {
+        &self.list[..self.count]
+    }
+}
+
+impl fmt::Debug for Requests {
+    fn fmt(&self, f: &mut fmt::Formatter<'_>) -> fmt::Result {
+        self.deref().fmt(f)
+    }
+}
