@@ -1,10 +1,20 @@
-//! The C header has the refusals, the marks and the kinds of metric under the same names and
-//! numbers.
+//! The C header has the refusals with their meanings, the version, the limits, the marks and the
+//! kinds of metric of this crate.
 
-use ccfb::{kind, Mark, Refusal};
+use ccfb::{kind, room, Mark, Refusal};
+
+const HEADER: &str = include_str!("../../include/ccfb.h");
 
 /// The refusals of arrival files, which no call of the library gives.
 const OF_THE_PROGRAM: std::ops::RangeInclusive<u8> = 11..=14;
+
+/// What a macro stands for, without the comment behind it.
+fn value_of(macro_name: &str) -> &'static str {
+    let start = format!("#define {macro_name} ");
+    let value = HEADER.lines().find_map(|line| line.strip_prefix(&start));
+    let value = value.unwrap_or_else(|| panic!("no {macro_name} in the header"));
+    value.split("/*").next().unwrap_or_default().trim_end()
+}
 
 /// `BadMark` as C names it: `CCFB_BAD_MARK`.
 fn macro_name(refusal: Refusal) -> String {
@@ -19,39 +29,81 @@ fn macro_name(refusal: Refusal) -> String {
 }
 
 #[test]
-fn names_and_numbers() {
-    let header = include_str!("../../include/ccfb.h");
+fn refusals() {
     let of_calls =
         Refusal::ALL.iter().filter(|refusal| !OF_THE_PROGRAM.contains(&refusal.number()));
     let defined: Vec<String> = of_calls
-        .map(|refusal| format!("#define {} {}", macro_name(*refusal), refusal.number()))
+        .map(|refusal| {
+            let (name, number) = (macro_name(*refusal), refusal.number());
+            format!("#define {name} {number} /* {} */", refusal.meaning())
+        })
         .collect();
-    let (_, refusals) = header.split_once("/* Refusals. */\n").expect("the list of refusals");
+    let (_, refusals) = HEADER.split_once("/* Refusals. */\n").expect("the list of refusals");
     let (refusals, _) = refusals.split_once("\n\n").expect("its end");
     assert_eq!(refusals.lines().collect::<Vec<_>>(), defined);
 }
 
+/// The texts of `ccfb_refusal_text` stand in the order of their numbers.
+#[test]
+fn refusal_texts() {
+    let (_, function) = HEADER.split_once("*ccfb_refusal_text(").expect("ccfb_refusal_text");
+    let (function, _) = function.split_once("\n}\n").expect("its end");
+    // C joins the parts of a text that is cut at a line's end.
+    let texts: String = function.split_whitespace().collect::<Vec<_>>().join(" ");
+    let texts = texts.replace("\" \"", "");
+    let at = |text: &str| texts.find(&format!("{text:?}")).unwrap_or_else(|| panic!("no {text}"));
+    let starts: Vec<usize> = Refusal::ALL.iter().map(|known| at(known.meaning())).collect();
+    assert!(starts.windows(2).all(|pair| pair[0] < pair[1]));
+    assert!(at("accepted") != at("unknown refusal"));
+}
+
+#[test]
+fn version() {
+    assert_eq!(value_of("CCFB_VERSION"), format!("{:?}", env!("CARGO_PKG_VERSION")));
+    assert_eq!(value_of("CCFB_VERSION_MAJOR"), env!("CARGO_PKG_VERSION_MAJOR"));
+    assert_eq!(value_of("CCFB_VERSION_MINOR"), env!("CARGO_PKG_VERSION_MINOR"));
+    assert_eq!(value_of("CCFB_VERSION_PATCH"), env!("CARGO_PKG_VERSION_PATCH"));
+}
+
+#[test]
+fn limits() {
+    for (name, limit) in [
+        ("CCFB_MOST_PLACES", ccfb::MOST_PLACES),
+        ("CCFB_CELLS_OF_A_PLACE", ccfb::CELLS_OF_A_PLACE),
+        ("CCFB_LEAST_LIMIT", *ccfb::LIMITS.start()),
+        ("CCFB_MOST_LIMIT", *ccfb::LIMITS.end()),
+        ("CCFB_MOST_REQUESTS", ccfb::MOST_REQUESTS),
+        ("CCFB_MOST_REPORTS", ccfb::MOST_REPORTS),
+    ] {
+        assert_eq!(value_of(name), limit.to_string(), "{name}");
+    }
+    let (of_a_number, of_a_request) = (room(1, 0), room(0, 1));
+    assert_eq!(
+        value_of("CCFB_ROOM(numbers, requests)"),
+        format!("({of_a_number} * (size_t)(numbers) + {of_a_request} * (size_t)(requests))")
+    );
+}
+
 #[test]
 fn kinds() {
-    let header = include_str!("../../include/ccfb.h");
-    let (_, kinds) = header.split_once("/* The kinds of metric.").expect("the kinds of metric");
-    let (kinds, _) = kinds.split_once("\n\n").expect("their end");
-    let defined = [
-        format!("#define CCFB_NOT_RECEIVED {}", kind::NOT_RECEIVED),
-        format!("#define CCFB_RECEIVED {}", kind::RECEIVED),
-        format!("#define CCFB_OVER_RANGE {}", kind::OVER_RANGE),
-        format!("#define CCFB_NO_TIME {}", kind::NO_TIME),
-    ];
-    assert_eq!(kinds.lines().skip(1).collect::<Vec<_>>(), defined);
+    for (name, kind) in [
+        ("CCFB_NOT_RECEIVED", kind::NOT_RECEIVED),
+        ("CCFB_RECEIVED", kind::RECEIVED),
+        ("CCFB_OVER_RANGE", kind::OVER_RANGE),
+        ("CCFB_NO_TIME", kind::NO_TIME),
+    ] {
+        assert_eq!(value_of(name), kind.to_string(), "{name}");
+    }
 }
 
 #[test]
 fn marks() {
-    let header = include_str!("../../include/ccfb.h");
-    for (name, mark) in
-        [("NOT_ECT", Mark::NotEct), ("ECT_1", Mark::Ect1), ("ECT_0", Mark::Ect0), ("CE", Mark::Ce)]
-    {
-        let line = format!("\n#define CCFB_{name} {}\n", mark.number());
-        assert!(header.contains(&line), "{line}");
+    for (name, mark) in [
+        ("CCFB_NOT_ECT", Mark::NotEct),
+        ("CCFB_ECT_1", Mark::Ect1),
+        ("CCFB_ECT_0", Mark::Ect0),
+        ("CCFB_CE", Mark::Ce),
+    ] {
+        assert_eq!(value_of(name), mark.number().to_string(), "{name}");
     }
 }
