@@ -7,6 +7,10 @@ use std::process::exit;
 
 const LIBRARY: &str = "libccfb.a";
 
+/// Linked in place of a library that is not there: the linker repeats the name of what it cannot
+/// find. A warning is not enough, since cargo shows it for path dependencies only.
+const NOT_THERE: &str = "ccfb (run scripts/library, or set CCFB_LIB_DIR)";
+
 fn main() {
     println!("cargo::rerun-if-changed=build.rs");
     println!("cargo::rerun-if-env-changed=CCFB_LIB_DIR");
@@ -25,29 +29,32 @@ fn link_named(folder: &Path) {
         ));
     }
     if !folder.join(LIBRARY).is_file() {
-        refuse(&format!("CCFB_LIB_DIR is {folder:?}, but that folder has no {LIBRARY}"));
+        refuse(&format!(
+            "CCFB_LIB_DIR is {folder:?}, but that folder has no {LIBRARY}: scripts/library builds it"
+        ));
     }
-    link(folder, "static");
+    link(folder);
 }
 
 /// Links from the folder of scripts/library. If the library is not there, only linking fails.
 fn link_built(folder: &Path) {
     let library = folder.join(LIBRARY);
     if library.is_file() {
-        return link(folder, "static");
+        return link(folder);
     }
+    println!("cargo::rerun-if-changed={}", library.display());
     println!(
         "cargo::warning={} is not there, so programs and tests will not link: run \
          scripts/library, or set CCFB_LIB_DIR to the full path of the folder of {LIBRARY}",
         library.display()
     );
-    link(folder, "static:-bundle"); // not looked for until a program is linked
+    println!("cargo::rustc-link-lib=static:-bundle={NOT_THERE}"); // not looked for until then
 }
 
-fn link(folder: &Path, kind: &str) {
+fn link(folder: &Path) {
     println!("cargo::rerun-if-changed={}", folder.join(LIBRARY).display());
     println!("cargo::rustc-link-search=native={}", folder.display());
-    println!("cargo::rustc-link-lib={kind}=ccfb");
+    println!("cargo::rustc-link-lib=static=ccfb");
 }
 
 fn refuse(why: &str) -> ! {

@@ -14,7 +14,7 @@
 //! store.arrive(0x0a01, 65534, Mark::Ect0, Time::At(0x0004_8000))?;
 //! store.arrive(0x0a01, 0, Mark::Ce, Time::At(0x0005_0000))?;
 //!
-//! // A report, every 50 to 200 ms: what is new since the last, and 16 numbers once more.
+//! // A report, every 50 ms or so: what is new since the last, and up to 16 numbers once more.
 //! let mut reporter = Reporter::new(16);
 //! let requests = reporter.requests(store.streams());
 //! let report = Report { own: 0xf1, rts: 0x0005_0000, limit: 1_200 };

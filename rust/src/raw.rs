@@ -304,3 +304,22 @@ pub fn rewrite(packet: &[u8], out: &mut [u8]) -> Result<usize, Refusal> {
     };
     answer(refused, written)
 }
+
+#[cfg(test)]
+mod tests {
+    use super::{answer, metric_of, part_of};
+    use crate::Refusal;
+
+    /// The library gives none of these answers.
+    #[test]
+    fn no_answer_panics() {
+        for (at, length) in [(0, 5), (4, 1), (5, 1), (usize::MAX, 1), (1, usize::MAX)] {
+            assert_eq!(part_of(&[1, 2, 3, 4], at, length), Err(Refusal::RunsIntoRts));
+        }
+        assert_eq!(part_of(&[1, 2, 3, 4], 1, 3), Ok([2, 3, 4].as_slice()));
+        for number in 0..=u8::MAX {
+            assert_eq!(answer(number, ()).is_ok(), number == 0);
+            metric_of(number, number, u16::MAX);
+        }
+    }
+}

@@ -27,7 +27,16 @@ impl Request {
     }
 }
 
-/// The requests of one report, for no stream twice: a slice of them, without a heap.
+/// The requests of one report, at most 16 and for no stream twice: a slice of them, without a heap.
+///
+/// ```
+/// use ccfb::{Reporter, Request, Stream};
+///
+/// let streams = [7, 8].map(|ssrc| Stream { ssrc, highest: 100, oldest: 91 });
+/// let requests = Reporter::new(0).requests(streams);
+/// assert_eq!(requests[1], Request { ssrc: 8, begin: 91, count: 10 });
+/// assert_eq!(requests.room(), ccfb::room(20, 2));
+/// ```
 #[derive(Clone)]
 pub struct Requests {
     list: [Request; MOST_REQUESTS],
@@ -38,7 +47,8 @@ impl Requests {
     pub(crate) const NONE: Requests =
         Requests { list: [Request { ssrc: 0, begin: 0, count: 0 }; MOST_REQUESTS], count: 0 };
 
-    /// Octets of output that are enough for a report on them, whatever the limit.
+    /// Octets of output that are enough for a report on them, whatever the limit: as
+    /// [`room`](crate::room).
     pub fn room(&self) -> usize {
         let numbers = self.iter().map(|request| usize::from(request.count)).sum();
         room(numbers, self.len())
@@ -64,7 +74,7 @@ impl Deref for Requests {
     type Target = [Request];
 
     fn deref(&self) -> &[Request] {
-        &self.list[..self.count]
+        self.list.get(..self.count).unwrap_or(&self.list)
     }
 }
 

@@ -11,9 +11,7 @@ const NANOSECONDS_OF_A_SECOND: u32 = 1_000_000_000;
 /// The bits of a time that count fractions of a second.
 const FRACTION_BITS: u32 = 16;
 
-/// When a packet arrived.
-///
-/// Its clock is the one that RTS is taken from: see [`ntp_time`].
+/// When a packet arrived, by the clock that RTS is taken from.
 ///
 /// ```
 /// use ccfb::Time;
@@ -66,8 +64,11 @@ impl From<SystemTime> for Time {
     }
 }
 
-/// The middle 32 bits of the NTP timestamp of a time: what RTS counts, and what [`Time::At`] holds.
-/// Rounded down to 1/65536 s.
+/// The middle 32 bits of the NTP timestamp of a time, rounded down to 1/65536 s. RTS is such a
+/// count, and so is a [`Time::At`].
+///
+/// RTS is of the same clock as the NTP timestamps in the sender's reports. If that clock is set
+/// back, what arrived before is for a while reported without a time.
 ///
 /// ```
 /// use ccfb::{ntp_time, Time};

@@ -5,7 +5,8 @@
 pub struct Report {
     /// The SSRC of the packets' sender.
     pub own: u32,
-    /// The report timestamp, in 1/65536 s: see [`ntp_time`](crate::ntp_time).
+    /// The report timestamp, in 1/65536 s: the time now, as [`ntp_time`](crate::ntp_time) gives
+    /// it. What arrived after it is reported without a time.
     pub rts: u32,
     /// The most octets that a packet may have, 24 to 9,000: see [`LIMITS`](crate::LIMITS).
     pub limit: usize,
