@@ -30,8 +30,8 @@ pub trait Memory: HasWords {}
 
 /// Memory on the heap for so many places, 1 to 16. Needs the feature `alloc`.
 ///
-/// It is not kept in the value itself, since a place takes 16 KiB: 16 of them on the stack, moved
-/// about, would overflow that of many a thread.
+/// The value itself does not hold it: a place takes 16 KiB, and a value that holds 16 places could
+/// overflow the stack when it is made or moved. Without a heap, [`Borrowed`] memory does the same.
 #[cfg(feature = "alloc")]
 #[derive(Clone)]
 pub struct Owned<const PLACES: usize> {

@@ -29,7 +29,7 @@ use crate::{Request, Requests, Stream};
 /// store.arrive(7, 100, Mark::Ect1, Time::At(1_000))?;
 /// assert_eq!(report(&store, 2_000)?, Request { ssrc: 7, begin: 100, count: 1 });
 ///
-/// // 101 is lost or late, so it is reported twice more.
+/// // 101 is late or lost: it is reported as missing, and once more in the next report.
 /// store.arrive(7, 102, Mark::Ect1, Time::At(3_000))?;
 /// assert_eq!(report(&store, 4_000)?, Request { ssrc: 7, begin: 100, count: 3 });
 /// store.arrive(7, 103, Mark::Ect1, Time::At(5_000))?;
@@ -44,8 +44,8 @@ pub struct Reporter {
 }
 
 impl Reporter {
-    /// Nothing is reported yet. From then on a report has up to `overlap` numbers of the earlier
-    /// ones once more: see [`Stream::since_with_overlap`].
+    /// Nothing is reported yet. Every report after the first on a stream will have up to `overlap`
+    /// earlier numbers once more: see [`Stream::since_with_overlap`].
     pub const fn new(overlap: u16) -> Reporter {
         Reporter { overlap, reported: Requests::NONE }
     }
@@ -53,7 +53,7 @@ impl Reporter {
     /// The requests of the next report. Pass all streams of the store: those that are not among
     /// them are no longer remembered.
     ///
-    /// [`Store::write`](crate::StoreOver::write) does not refuse these requests on the same store.
+    /// Write them before the next arrival: they are of the streams as they are now.
     pub fn requests(&mut self, streams: impl IntoIterator<Item = Stream>) -> Requests {
         let (mut requests, mut held) = (Requests::NONE, Requests::NONE);
         for stream in streams {
@@ -82,7 +82,9 @@ impl Reporter {
     }
 
     /// Forgets a stream, so that the next report on it is a first one. Call it whenever the store
-    /// [forgets](crate::StoreOver::forget) the stream.
+    /// [forgets](crate::StoreOver::forget) the stream: if it comes back before the next report, and
+    /// 2,048 or more numbers after the last one reported, nothing else tells it from one that lost
+    /// so many.
     ///
     /// ```
     /// use ccfb::{Reporter, Stream};
