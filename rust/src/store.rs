@@ -63,9 +63,9 @@ pub type Store<const PLACES: usize> = StoreOver<Owned<PLACES>>;
 /// ```
 /// use ccfb::{Mark, Refusal, StoreIn, Time, CELLS_OF_A_PLACE};
 ///
-/// let streams_offered = "3".parse().unwrap_or(1);
-/// let mut places = vec![0; streams_offered];
-/// let mut cells = vec![0; streams_offered * CELLS_OF_A_PLACE];
+/// let streams = 3; // as many as were negotiated
+/// let mut places = vec![0; streams];
+/// let mut cells = vec![0; streams * CELLS_OF_A_PLACE];
 /// let mut store = StoreIn::new(&mut places, &mut cells)?;
 /// store.arrive(7, 100, Mark::Ect1, Time::At(1))?;
 /// # Ok::<(), Refusal>(())
