@@ -30,7 +30,7 @@ fn link_named(folder: &Path) {
     }
     if !folder.join(LIBRARY).is_file() {
         refuse(&format!(
-            "CCFB_LIB_DIR is {folder:?}, but that folder has no {LIBRARY}: scripts/library builds it"
+            "CCFB_LIB_DIR is {folder:?}, but it has no {LIBRARY}: scripts/library builds one"
         ));
     }
     link(folder);
