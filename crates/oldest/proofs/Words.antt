@@ -1,14 +1,13 @@
 -- The test of the search by the word of a cell, and the slots of a window's numbers. Assumes nothing.
 use Prim.Native.Nat.{ℕ, _+_, _-_, _*_, _%_, _<_, _≤_}
-use mathlib.Core.Path.{_≡_, refl, sym, ap, _∙_}
-use mathlib.Core.Bool.{Bool, true, false}
+use mathlib.Core.Path.{_≡_, ap, _∙_}
+use mathlib.Core.Bool.{true, false}
 use mathlib.Core.List.{List}
 use native.Mathlib.Omega.{arith}
 use borrow.Author.Tests.{lt-ltb, le-ltb}
 use lib.ListN.{getD}
-use Rattle.lists.proofs.Cases.{split-le}
 use Rattle.ring.specs.Ring.{cellsOfAPlace}
-use Rattle.window.specs.Number.{distanceOf, sequenceNumbers}
+use Rattle.window.specs.Number.{sequenceNumbers}
 use Rattle.place_window.specs.Window.{cellAt}
 use Rattle.cells.specs.Cell.{kinds, leastFilled, readCell}
 use Rattle.oldest.specs.Oldest.{windowNumber, isFilled, arrivedIn}

@@ -1,8 +1,7 @@
 -- `oldest::oldest_in` meets its contract. The invariant: the search starting at i finds what the search starting at 0
 -- finds. Assumes nothing.
-use Prim.Native.Nat.{_+_, _-_, _*_, _≤_}
+use Prim.Native.Nat.{_-_, _≤_}
 use mathlib.Core.Path.{_≡_, refl, sym, ap, _∙_}
-use native.Mathlib.Nat.{sub-zero}
 use native.Mathlib.Omega.{arith}
 use borrow.Author.Needs.{needs}
 use Rattle.lists.specs.First.{firstFrom}

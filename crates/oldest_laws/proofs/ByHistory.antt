@@ -1,0 +1,121 @@
+-- The oldest number of a stream's window is the lowest that an accepted arrival had, for every list of arrivals and
+-- forgets from a fresh store. Assumes nothing.
+use Prim.Native.Nat.{ℕ, _-_, _%_, _<_, _≤_}
+use mathlib.Core.Path.{_≡_, sym, ap, _∙_}
+use mathlib.Core.List.{List, [], _∷_, List·Memᴰ, List·Memᴰ·not-nil, List·Memᴰ·cases-cons}
+use mathlib.Core.Logic.{⊎-elim}
+use native.Mathlib.Omega.{arith}
+use Rattle.lists.specs.All.{All}
+use Rattle.lists.proofs.Cases.{split-le}
+use Rattle.ring.specs.Ring.{cellsOfAPlace}
+use Rattle.window.specs.Number.{distanceOf, sequenceNumbers}
+use Rattle.places.specs.Place.{placeAt, findOf}
+use Rattle.places.specs.declared.Holding.{Holding}
+use Rattle.places.proofs.Held.{held-found}
+use Rattle.places.proofs.Shape.{shaped-is}
+use Rattle.place_window.specs.Window.{cellAt}
+use Rattle.cells.specs.Cell.{readCell}
+use Rattle.history.specs.Calls.{Call, CallInRange, Store, storeRun, Accepted}
+use Rattle.history.specs.Meaning.{Entry, topOf, entriesOf, cellBy}
+use Rattle.history.specs.Reading.{Holds, Fresh}
+use Rattle.history.proofs.ByHistory.{by-history, no-ssrc-twice, same-reading, highest-attained}
+use Rattle.history.proofs.Filled.{as-arrivals}
+use Rattle.feedback.specs.Seen.{StandsFor, historyOf}
+use Rattle.feedback.proofs.Window.{full-number, cell-in-window}
+use Rattle.oldest.specs.Oldest.{oldestIn, oldestOf}
+use Rattle.oldest_laws.specs.Given.{NotArrived, OldestIs, arrived, none}
+use Rattle.oldest_laws.specs.ByHistory.{OldestArrived}
+use Rattle.oldest_laws.proofs.Given.{distance-back, oldest-is}
+use Rattle.lists.specs.declared.Found.the-variants.{At}
+use Rattle.places.specs.declared.Holding.the-variants.{Held}
+use Rattle.oldest.specs.declared.OldestAnswer.the-variants as answer
+
+-- two numbers that are the oldest of one stream are one
+pub oldest-one : (history : List Accepted) (s t : ℕ) → OldestArrived history s → OldestArrived history t → s ≡ t
+oldest-one history s t a b =
+    let e : a .full ≡ b .full = omega (arith, low history s t a b, low history t s b a) in
+    sym (a .stands .low) ∙ ap (λ (n : ℕ). n % sequenceNumbers) e ∙ b .stands .low
+  where
+    low : (history : List Accepted) (s t : ℕ) → (a : OldestArrived history s) (b : OldestArrived history t) → a .full ≤ b .full
+    low history s t a b =
+        let e = b .had .1 .1 in
+        let l = b .stands .least in
+        let g = a .lowest (b .had .0) (b .had .1 .0) (omega arith) in omega arith
+
+-- ---- entries
+all-at : {A : Type 0} (P : A → Type 0) (xs : List A) (x : A) → All P xs → List·Memᴰ x xs → P x
+all-at P [] x h m = absurd (List·Memᴰ·not-nil m)
+all-at P (y ∷ xs) x h m = ⊎-elim (λ e. rw e (h .0)) (λ n. all-at P xs x (h .1) n) (List·Memᴰ·cases-cons m)
+
+-- the highest full number of a stream that has begun is that of an arrival
+attained : (l : List Accepted) → sequenceNumbers ≤ topOf l → (e : Entry) × (List·Memᴰ e (entriesOf l) × (e .full ≡ topOf l))
+attained [] g = absurd (omega arith)
+attained (a ∷ l) g = highest-attained a l
+
+-- ---- a window that reads as the entries say
+module _ (cells : List ℕ) (p : ℕ) (h : Holding) (ssrc : ℕ) (past : List Accepted) (held : Holds cells p h ssrc (topOf past) (entriesOf past)) where
+  abbrev top : ℕ
+  top = topOf past
+
+  abbrev highest : ℕ
+  highest = topOf past % sequenceNumbers
+
+  -- the number b behind the highest stands for the full number b below the highest one
+  stands : (b : ℕ) → b < cellsOfAPlace → StandsFor top (distanceOf highest b) (top - b)
+  stands b l =
+      let g = held .begun in
+      let e = distance-back highest b (omega arith) (omega arith) in
+      rw e at (full-number top (distanceOf highest b) (held .begun) (omega arith) (rw e l))
+
+  cell-reads : (b : ℕ) → b < cellsOfAPlace → readCell (cellAt cells p (distanceOf highest b)) ≡ cellBy (entriesOf past) (top - b)
+  cell-reads b l =
+      let e = distance-back highest b (omega arith) (omega arith) in
+      rw e at (cell-in-window cells p h ssrc top (entriesOf past) (distanceOf highest b) held (omega arith) (rw e l))
+
+  -- no accepted arrival had the full number of an empty cell
+  none-had : (b : ℕ) → b < cellsOfAPlace → NotArrived cells p highest b → (e : Entry) → List·Memᴰ e (entriesOf past) → e .full ≡ top - b → ⊥
+  none-had b l n e m q = as-arrivals (entriesOf past) (top - b) .filled e m q (sym (cell-reads b l) ∙ n)
+
+  oldest-had : (s : ℕ) → OldestIs cells p highest s → OldestArrived past s
+  oldest-had s (arrived b mark time l f before) = record {
+    full = top - b;
+    stands = stands b l;
+    had = as-arrivals (entriesOf past) (top - b) .only mark time (sym (cell-reads b l) ∙ f);
+    lowest = λ e m near.
+        let most : e .full ≤ top = all-at (λ (d : Entry). d .full ≤ top) (entriesOf past) e (held .highest) m in
+        split-le (top - b) (e .full)
+        (λ g. g)
+        (λ g. absurd (none-had (top - e .full) (omega arith) (before (top - e .full) (omega arith) (omega arith)) e m (omega arith)));
+  }
+  oldest-had s (none before) =
+      let a = attained past (held .begun) in
+      absurd (none-had 0 (omega arith) (before 0 (omega arith)) (a .0) (a .1 .0) (omega (arith, a .1 .1)))
+
+-- ---- every list of calls to a fresh store
+module _ (st : Store) (new : Fresh st) (cs : List Call) (range : All CallInRange cs) (k ssrc highest : ℕ)
+    (is : placeAt (storeRun st cs .places) k ≡ Held ssrc highest) where
+  found : findOf (storeRun st cs .places) ssrc ≡ At k
+  found = held-found (storeRun st cs .places) ssrc k highest (record { holds = is; first = first }) .0
+    where
+      first : (j h : ℕ) → j < k → placeAt (storeRun st cs .places) j ≡ Held ssrc h → ⊥
+      first j h l e = let q = no-ssrc-twice st new cs range ssrc j k h highest e is in omega arith
+
+  holds : Holds (storeRun st cs .cells) k (placeAt (storeRun st cs .places) k) ssrc (topOf (historyOf st cs ssrc)) (entriesOf (historyOf st cs ssrc))
+  holds = by-history st new cs range ssrc k found
+
+  same-highest : (a b : ℕ) → placeAt (storeRun st cs .places) k ≡ Held ssrc a → placeAt (storeRun st cs .places) k ≡ Held ssrc b → a ≡ b
+  same-highest a b e f = cc
+
+  -- the answer for a stream that the store holds is the lowest number of its window that an accepted arrival had
+  -- since it took its place
+  pub oldest-by-history : (s : ℕ) × ((oldestOf (storeRun st cs .places) (storeRun st cs .cells) k ≡ answer.Number s) × OldestArrived (historyOf st cs ssrc) s)
+  oldest-by-history =
+      let h : highest ≡ topOf (historyOf st cs ssrc) % sequenceNumbers = same-highest _ _ is (holds .place) in
+      let shape = same-reading st new cs range .shape in (
+        oldestIn (storeRun st cs .cells) k highest,
+        (
+          rw (shaped-is _ _ shape, is),
+          oldest-had (storeRun st cs .cells) k (placeAt (storeRun st cs .places) k) ssrc (historyOf st cs ssrc) holds (oldestIn (storeRun st cs .cells) k highest)
+              (rw (← h) (oldest-is (storeRun st cs .cells) k highest)),
+        ),
+      )
