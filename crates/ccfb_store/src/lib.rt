@@ -1,10 +1,13 @@
-// The calls for C that forget a stream of a store that the caller lends, and that read a place of it.
+// The calls for C that forget a stream of a store that the caller lends, and that read a place of it or the oldest number
+// of a place that arrived.
 ghost use mathlib.Core.Path.{_≡_};
 ghost use mathlib.Core.List.{[], _∷_};
 ghost use Rattle.places.specs.After.{placesAfter};
 ghost use Rattle.store.specs.Store.{forgotten, placeOf};
+ghost use Rattle.oldest.specs.Oldest.{oldestOf};
 ghost use Rattle.ccfb_calls.specs.Called.{called};
-ghost use Rattle.ccfb_store.specs.Places.{forgettingRefusal, forgetCalled, placeCalled};
+ghost use Rattle.ccfb_store.specs.Places.{forgettingRefusal, forgetCalled, placeCalled, oldestCalled};
+use oldest::OldestAnswer;
 use store::Forgetting;
 use store::PlaceAnswer;
 
@@ -53,5 +56,23 @@ pub extern "C" fn ccfb_place(
             0
         }
         PlaceAnswer::Refused(e) => refusal::number(e),
+    }
+}
+
+// The oldest number of the window of the stream of place k, from 0, that arrived. Refusals 4, 5.
+#[no_mangle]
+pub extern "C" fn ccfb_oldest(places: &[u64], cells: &[u64], k: usize, oldest: &mut u16) -> u8
+    ensures after { λ r. ⌜
+        called r (now (oldest .exit) ∷ [])
+        ≡ oldestCalled (oldestOf (now (places .entry)) (now (cells .entry)) k)
+        (now (oldest .entry) ∷ []) ⌝ }
+{
+    let answer = oldest::oldest(places, cells, k);
+    match answer {
+        OldestAnswer::Number(n) => {
+            *oldest = n;
+            0
+        }
+        OldestAnswer::Refused(e) => refusal::number(e),
     }
 }
