@@ -69,6 +69,9 @@ mod tests {
         let store = read(&places, &cells).unwrap();
         assert_eq!(store.place(1), Ok((0xFFFF_FFFF, 1)));
         assert_eq!(store.place(2), Err(Refusal::NotHeld));
+        assert_eq!(store.oldest(1), Ok(65_535));
+        assert_eq!(store.oldest(2), Err(Refusal::NotHeld));
+        assert_eq!(store.oldest(3), Ok(9), "no cell of the window is filled");
         let stream = store.stream(0xFFFF_FFFF).unwrap();
         assert_eq!(stream.highest, 1);
         let window = stream.window();

@@ -73,6 +73,13 @@ impl Stream {
         }
     }
 
+    /// The lowest full number of the window that an accepted arrival had; that of H if none had one.
+    pub fn oldest(&self) -> i64 {
+        let full_numbers = self.accepted.iter().map(|accepted| accepted.full);
+        let of_window = full_numbers.filter(|full| WINDOW.contains(&(self.highest - full)));
+        of_window.min().unwrap_or(self.highest)
+    }
+
     /// The cells of the window: that of H first, then that of H-1 and so on.
     pub fn window(&self) -> Vec<Option<Arrived>> {
         let mut copies = vec![Vec::new(); CELLS_OF_A_PLACE];
@@ -143,11 +150,19 @@ impl Store {
         Ok(())
     }
 
+    fn held(&self, k: usize) -> Result<&Stream, Refusal> {
+        self.places.get(k).and_then(Option::as_ref).ok_or(Refusal::NotHeld)
+    }
+
     /// The stream that place `k` holds, and its H.
     pub fn place(&self, k: usize) -> Result<(u32, u16), Refusal> {
-        let held = self.places.get(k).and_then(Option::as_ref);
-        let stream = held.ok_or(Refusal::NotHeld)?;
+        let stream = self.held(k)?;
         Ok((stream.ssrc, wrapped(stream.highest)))
+    }
+
+    /// The oldest number of the window of the stream that place `k` holds.
+    pub fn oldest(&self, k: usize) -> Result<u16, Refusal> {
+        Ok(wrapped(self.held(k)?.oldest()))
     }
 }
 
@@ -206,6 +221,31 @@ mod tests {
             store.arrive(7, jump, arrived(1, None)).unwrap();
             let filled = store.stream(7).unwrap().window().iter().flatten().count();
             assert_eq!(filled, if stays { 2 } else { 1 }, "jump {jump}");
+        }
+    }
+
+    #[test]
+    fn oldest() {
+        for (arrivals, oldest) in [
+            (&[0][..], 0),
+            (&[0, 1, 5], 0),
+            (&[5, 3], 3),
+            (&[0, 65_535], 65_535),
+            (&[0, 63_489], 63_489),
+            (&[0, 2_047], 0),
+            (&[0, 2_048], 2_048),
+            (&[0, 1, 2_048], 1),
+            (&[65_000, 100, 65_500], 65_000),
+            (&[65_000, 32_000, 31_999], 31_999),
+        ] {
+            let mut store = Store::fresh(1).unwrap();
+            for number in arrivals {
+                store.arrive(7, *number, arrived(0, None)).unwrap();
+            }
+            assert_eq!(store.oldest(0), Ok(oldest), "{arrivals:?}");
+            assert_eq!(store.oldest(1), Err(Refusal::NotHeld));
+            store.forget(7).unwrap();
+            assert_eq!(store.oldest(0), Err(Refusal::NotHeld));
         }
     }
 

@@ -5,7 +5,7 @@ use crate::calls::store::StoreCalls;
 use crate::refusal::Refusal;
 use std::slice;
 
-pub const BASELINE: StoreCalls = StoreCalls { arrive, forget, place };
+pub const BASELINE: StoreCalls = StoreCalls { arrive, forget, place, oldest };
 
 pub const MOST_PLACES: usize = 16;
 pub const CELLS_OF_A_PLACE: usize = 2_048;
@@ -179,6 +179,38 @@ unsafe extern "C" fn place(
     match slice::from_raw_parts(places, places_len).get(k) {
         Some(word) if is_held(*word) => {
             (*ssrc, *highest) = stream(*word);
+            0
+        }
+        _ => Refusal::NotHeld.number(),
+    }
+}
+
+/// The oldest number that arrived, of the ring whose window ends with `highest`.
+#[inline]
+fn oldest_in(ring: &[u64], highest: u16) -> u16 {
+    let lowest = highest.wrapping_sub(CELLS_OF_A_PLACE as u16 - 1);
+    let (newer, older) = ring.split_at(usize::from(lowest) % CELLS_OF_A_PLACE);
+    let first = older.iter().chain(newer).position(|cell| cell & FILLED != 0);
+    first.map_or(highest, |above| lowest.wrapping_add(above as u16))
+}
+
+#[inline(never)]
+unsafe extern "C" fn oldest(
+    places: *const u64,
+    places_len: usize,
+    cells: *const u64,
+    cells_len: usize,
+    k: usize,
+    oldest: *mut u16,
+) -> u8 {
+    if !is_shaped(places_len, cells_len) {
+        return Refusal::BadStore.number();
+    }
+    let cells = slice::from_raw_parts(cells, cells_len);
+    match slice::from_raw_parts(places, places_len).get(k) {
+        Some(word) if is_held(*word) => {
+            let start = CELLS_OF_A_PLACE * k;
+            *oldest = oldest_in(&cells[start..start + CELLS_OF_A_PLACE], stream(*word).1);
             0
         }
         _ => Refusal::NotHeld.number(),

@@ -1,4 +1,4 @@
-//! Arrivals; a step is an arrival.
+//! Arrivals, and the oldest number of a stream; a step is an arrival, or a question for it.
 
 use super::{row, Row};
 use crate::baseline::store::BASELINE;
@@ -6,6 +6,8 @@ use crate::calls::store::{StoreCalls, Words};
 use crate::store::{CELLS_OF_A_PLACE, MOST_PLACES};
 
 const ARRIVALS: usize = 65_536;
+
+const QUESTIONS: usize = 1_000;
 
 /// An SSRC and a number.
 type Arrival = (u32, u16);
@@ -24,6 +26,7 @@ pub fn rows() -> Vec<Row> {
         arrivals("one copy in ten", 1, 0, &one_stream(|i| i - i / 10)),
         arrivals("loss of 64 in every thousand", 1, 0, &one_stream(|i| i + i / 936 * 64)),
         arrivals("a jump of 2,048 each", 1, 0, &one_stream(|i| CELLS_OF_A_PLACE * i)),
+        oldest("oldest of a stream that just started", &in_order[..1]),
     ]
 }
 
@@ -55,4 +58,18 @@ fn take(calls: StoreCalls, words: &mut Words, arrivals: &[Arrival]) {
         };
         assert_eq!(refused, 0);
     }
+}
+
+/// Asks for the oldest number of one stream, after its arrivals.
+fn oldest(name: &str, arrivals: &[Arrival]) -> Row {
+    let prepare = |calls| {
+        let mut words = Words::fresh(1);
+        take(calls, &mut words, arrivals);
+        words
+    };
+    row(name, (StoreCalls::product(), BASELINE), QUESTIONS, prepare, |calls, words| {
+        for _ in 0..QUESTIONS {
+            assert_eq!(calls.oldest(words, 0), Ok(arrivals[0].1));
+        }
+    })
 }

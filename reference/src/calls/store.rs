@@ -9,6 +9,7 @@ c_functions! { StoreCalls, "store":
     arrive = ccfb_arrive(*mut u64, usize, *mut u64, usize, u32, u16, u8, bool, u32);
     forget = ccfb_forget(*mut u64, usize, *const u64, usize, u32);
     place = ccfb_place(*const u64, usize, *const u64, usize, usize, *mut u32, *mut u16);
+    oldest = ccfb_oldest(*const u64, usize, *const u64, usize, usize, *mut u16);
 }
 
 /// The two arrays of a store.
@@ -78,5 +79,23 @@ impl StoreCalls {
             )
         };
         answer(refused, (ssrc, highest), before)
+    }
+
+    pub fn oldest(&self, words: &Words, k: usize) -> Result<u16, u8> {
+        let Words { places, cells } = words;
+        let before = 0xBEEF;
+        let mut oldest = before;
+        // SAFETY: as above.
+        let refused = unsafe {
+            (self.oldest)(
+                places.as_ptr(),
+                places.len(),
+                cells.as_ptr(),
+                cells.len(),
+                k,
+                &mut oldest,
+            )
+        };
+        answer(refused, oldest, before)
     }
 }

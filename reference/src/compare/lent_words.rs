@@ -5,13 +5,17 @@ use crate::lent::{place_word, HELD};
 use crate::rng::Rng;
 use crate::store::CELLS_OF_A_PLACE;
 
+/// The bit that a filled cell has and an empty one lacks.
+const FILLED: u64 = 8;
+
 /// Any content: held places, some with one SSRC in common, words that are nearly held, and cells
-/// of any bits.
+/// of any bits. The cells of some stores are mostly empty, and a few windows wholly.
 pub fn random_words(rng: &mut Rng, places: usize) -> Words {
-    let sparse = rng.one_in(4);
+    let any_of = rng.pick(&[1, 1, 8, 2 * CELLS_OF_A_PLACE as u64]);
+    let empty_bits = rng.pick(&[0, !FILLED]);
     let places = (0..places).map(|_| random_place(rng)).collect::<Vec<u64>>();
     let cells = (0..CELLS_OF_A_PLACE * places.len())
-        .map(|_| if sparse && !rng.one_in(8) { 0 } else { rng.u64() })
+        .map(|_| if rng.one_in(any_of) { rng.u64() } else { rng.u64() & empty_bits })
         .collect();
     Words { places, cells }
 }

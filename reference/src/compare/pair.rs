@@ -4,7 +4,7 @@ use super::{numbered, Mismatch, Tally};
 use crate::calls::store::{StoreCalls, Words};
 use crate::lent;
 use crate::metric::Arrived;
-use crate::store::{Store, CELLS_OF_A_PLACE};
+use crate::store::{Store, Stream, CELLS_OF_A_PLACE};
 
 /// A call that can change the store.
 #[derive(Clone, Copy, Debug)]
@@ -39,8 +39,8 @@ impl<'a> Pair<'a> {
         Pair { calls, words, model }
     }
 
-    /// Compares the answer of a call, then the stream and H of each place and of one past them.
-    /// Returns whether the call was accepted.
+    /// Compares the answer of a call, then the stream and H of each place and of one past them, and
+    /// the oldest number of the call's stream. Returns whether the call was accepted.
     pub fn call(&mut self, tally: &mut Tally, call: Call) -> Result<bool, Mismatch> {
         let (ours, reference) = match call {
             Call::Arrive { ssrc, number, arrived, idle } => (
@@ -55,6 +55,11 @@ impl<'a> Pair<'a> {
         for k in 0..=self.words.places.len() {
             self.place(tally, &call, k)?;
         }
+        let (Call::Arrive { ssrc, .. } | Call::Forget { ssrc }) = call;
+        let of_stream = |held: &Option<Stream>| held.as_ref().is_some_and(|held| held.ssrc == ssrc);
+        if let Some(k) = self.model.places().iter().position(of_stream) {
+            self.oldest(tally, &call, k)?;
+        }
         Ok(reference.is_ok())
     }
 
@@ -63,8 +68,13 @@ impl<'a> Pair<'a> {
         tally.same(&("place", k, "after", call), ours, numbered(self.model.place(k)))
     }
 
+    fn oldest(&self, tally: &mut Tally, call: &Call, k: usize) -> Result<(), Mismatch> {
+        let ours = self.calls.oldest(&self.words, k);
+        tally.same(&("oldest of place", k, "after", call), ours, numbered(self.model.oldest(k)))
+    }
+
     /// As `call`, and looks at every word: a refused call changes none, an accepted one changes
-    /// one place, and every window reads as it should.
+    /// one place, and every window reads as it should. Compares the oldest number of every place.
     pub fn call_closely(&mut self, tally: &mut Tally, call: Call) -> Result<(), Mismatch> {
         let before = self.words.clone();
         let accepted = self.call(tally, call)?;
@@ -72,6 +82,9 @@ impl<'a> Pair<'a> {
         let most = usize::from(accepted);
         tally.same(&("places touched by", call, touched), touched <= most, true)?;
         self.place(tally, &call, usize::MAX)?;
+        for k in (0..=self.words.places.len()).chain([usize::MAX]) {
+            self.oldest(tally, &call, k)?;
+        }
         self.windows(tally, &call)
     }
 

@@ -78,6 +78,7 @@ fn wrong_shape(calls: &StoreCalls, tally: &mut Tally, words: Words) -> Result<()
     tally.same(&("forget", shape), calls.forget(&mut ours, 1), Err(bad_store))?;
     for k in [0, shape.0, usize::MAX] {
         tally.same(&("place", shape, k), calls.place(&ours, k), Err(bad_store))?;
+        tally.same(&("oldest", shape, k), calls.oldest(&ours, k), Err(bad_store))?;
     }
     tally.same(&("words unchanged", shape), ours == words, true)
 }
