@@ -1,5 +1,5 @@
-// The calls for C that forget a stream of a store that the caller lends, and that read a place of it or the oldest number
-// of a place that arrived.
+// The calls for C that forget a stream of a store that the caller lends, that read a place of it, and
+// that give the oldest number of a place that arrived.
 ghost use mathlib.Core.Path.{_≡_};
 ghost use mathlib.Core.List.{[], _∷_};
 ghost use Rattle.places.specs.After.{placesAfter};
@@ -59,7 +59,7 @@ pub extern "C" fn ccfb_place(
     }
 }
 
-// The oldest number of the window of the stream of place k, from 0, that arrived. Refusals 4, 5.
+// The oldest number that arrived, of the window of the stream of place k, from 0. Refusals 4, 5.
 #[no_mangle]
 pub extern "C" fn ccfb_oldest(places: &[u64], cells: &[u64], k: usize, oldest: &mut u16) -> u8
     ensures after { λ r. ⌜

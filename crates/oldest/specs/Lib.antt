@@ -1,1 +1,2 @@
 pub mod Oldest
+pub mod Steps

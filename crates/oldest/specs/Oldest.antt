@@ -19,7 +19,8 @@ use Rattle.places.specs.declared.Holding.the-variants.{Free, Held}
 use Rattle.refusal.specs.declared.Refusal.the-variants.{BadStore, NotHeld}
 use Rattle.oldest.specs.declared.OldestAnswer.the-variants as answer
 
--- the numbers of the window that ends with highest, in rising order: number i, from 0, is 2,047 - i behind highest
+-- the numbers of the window that ends with highest, in rising order: number i, from 0, is 2,047 - i
+-- behind highest
 abbrev pub windowNumber : ℕ → ℕ → ℕ
 windowNumber highest i = distanceOf highest (cellsOfAPlace - 1 - i)
 
@@ -27,17 +28,18 @@ abbrev pub isFilled : Cell → Bool
 isFilled Empty = false
 isFilled (Filled mark time) = true
 
--- number i of the window arrived: its cell is filled
-abbrev pub arrivedIn : List ℕ → ℕ → ℕ → ℕ → Bool
-arrivedIn cells place highest i = isFilled (readCell (cellAt cells place (windowNumber highest i)))
+-- number i of the window of a place arrived: its cell is filled
+abbrev pub hasArrived : List ℕ → ℕ → ℕ → ℕ → Bool
+hasArrived cells place highest i = isFilled (readCell (cellAt cells place (windowNumber highest i)))
 
+-- the number that a search found; highest where it found none
 abbrev pub numberFound : ℕ → Found → ℕ
 numberFound highest (At i) = windowNumber highest i
 numberFound highest Nothing = highest
 
 -- the first number of the window, in rising order, that arrived; highest where none did
 unfoldable pub oldestIn : List ℕ → ℕ → ℕ → ℕ
-oldestIn cells place highest = numberFound highest (firstFrom (arrivedIn cells place highest) 0 cellsOfAPlace)
+oldestIn cells place highest = numberFound highest (firstFrom (hasArrived cells place highest) 0 cellsOfAPlace)
 
 -- of the stream of place k: refusals 4, 5
 abbrev pub oldestAt : List ℕ → ℕ → Holding → OldestAnswer

@@ -1,5 +1,5 @@
--- The oldest number of a stream's window is the lowest that an accepted arrival had, for every list of arrivals and
--- forgets from a fresh store. Assumes nothing.
+-- The oldest number of a stream's window is the lowest that an accepted arrival had, for every list
+-- of arrivals and forgets from a fresh store. Assumes nothing.
 use Prim.Native.Nat.{ℕ, _-_, _%_, _<_, _≤_}
 use mathlib.Core.Path.{_≡_, sym, ap, _∙_}
 use mathlib.Core.List.{List, [], _∷_, List·Memᴰ, List·Memᴰ·not-nil, List·Memᴰ·cases-cons}
@@ -29,18 +29,6 @@ use Rattle.oldest_laws.proofs.Given.{distance-back, oldest-is}
 use Rattle.lists.specs.declared.Found.the-variants.{At}
 use Rattle.places.specs.declared.Holding.the-variants.{Held}
 use Rattle.oldest.specs.declared.OldestAnswer.the-variants as answer
-
--- two numbers that are the oldest of one stream are one
-pub oldest-one : (history : List Accepted) (s t : ℕ) → OldestArrived history s → OldestArrived history t → s ≡ t
-oldest-one history s t a b =
-    let e : a .full ≡ b .full = omega (arith, low history s t a b, low history t s b a) in
-    sym (a .stands .low) ∙ ap (λ (n : ℕ). n % sequenceNumbers) e ∙ b .stands .low
-  where
-    low : (history : List Accepted) (s t : ℕ) → (a : OldestArrived history s) (b : OldestArrived history t) → a .full ≤ b .full
-    low history s t a b =
-        let e = b .had .1 .1 in
-        let l = b .stands .least in
-        let g = a .lowest (b .had .0) (b .had .1 .0) (omega arith) in omega arith
 
 -- ---- entries
 all-at : {A : Type 0} (P : A → Type 0) (xs : List A) (x : A) → All P xs → List·Memᴰ x xs → P x
@@ -106,8 +94,8 @@ module _ (st : Store) (new : Fresh st) (cs : List Call) (range : All CallInRange
   same-highest : (a b : ℕ) → placeAt (storeRun st cs .places) k ≡ Held ssrc a → placeAt (storeRun st cs .places) k ≡ Held ssrc b → a ≡ b
   same-highest a b e f = cc
 
-  -- the answer for a stream that the store holds is the lowest number of its window that an accepted arrival had
-  -- since it took its place
+  -- the answer for a stream that the store holds is the lowest number of its window that an
+  -- accepted arrival had since it took its place
   pub oldest-by-history : (s : ℕ) × ((oldestOf (storeRun st cs .places) (storeRun st cs .cells) k ≡ answer.Number s) × OldestArrived (historyOf st cs ssrc) s)
   oldest-by-history =
       let h : highest ≡ topOf (historyOf st cs ssrc) % sequenceNumbers = same-highest _ _ is (holds .place) in
@@ -119,3 +107,16 @@ module _ (st : Store) (new : Fresh st) (cs : List Call) (range : All CallInRange
               (rw (← h) (oldest-is (storeRun st cs .cells) k highest)),
         ),
       )
+
+-- ---- the rules leave one number
+-- two numbers that are the oldest of one stream are one
+pub oldest-one : (history : List Accepted) (s t : ℕ) → OldestArrived history s → OldestArrived history t → s ≡ t
+oldest-one history s t a b =
+    let e : a .full ≡ b .full = omega (arith, low history s t a b, low history t s b a) in
+    sym (a .stands .low) ∙ ap (λ (n : ℕ). n % sequenceNumbers) e ∙ b .stands .low
+  where
+    low : (history : List Accepted) (s t : ℕ) → (a : OldestArrived history s) (b : OldestArrived history t) → a .full ≤ b .full
+    low history s t a b =
+        let e = b .had .1 .1 in
+        let l = b .stands .least in
+        let g = a .lowest (b .had .0) (b .had .1 .0) (omega arith) in omega arith

@@ -1,5 +1,5 @@
--- The oldest number of a window, and each refusal, exactly when the rules give it, for a store of any lent content.
--- Assumes nothing.
+-- The oldest number of a window, and each refusal, exactly when the rules give it, for a store of any
+-- lent content. Assumes nothing.
 use Prim.Native.Nat.{ℕ, _+_, _-_, _<_}
 use mathlib.Core.Path.{_≡_, refl, sym, ap, _∙_}
 use mathlib.Core.Bool.{true, false, false≢true, true≢false}
@@ -22,7 +22,7 @@ use Rattle.places.proofs.Shape.{right, wrong, Shape, shaped-is, misshapen-is, s
 use Rattle.places.proofs.Held.{past-free}
 use Rattle.place_window.specs.Window.{cellAt}
 use Rattle.cells.specs.Cell.{readCell}
-use Rattle.oldest.specs.Oldest.{windowNumber, isFilled, arrivedIn, numberFound, oldestIn, oldestAt, oldestOf}
+use Rattle.oldest.specs.Oldest.{windowNumber, isFilled, hasArrived, numberFound, oldestIn, oldestAt, oldestOf}
 use Rattle.oldest.specs.declared.OldestAnswer.{OldestAnswer}
 use Rattle.writer_laws.specs.Refused.{InWindow}
 use Rattle.oldest_laws.specs.Given.{NotArrived, OldestIs, arrived, none, OldestGiven}
@@ -54,43 +54,44 @@ module _ (cells : List ℕ) (p highest : ℕ) where
   behind b l = let e : cellsOfAPlace - 1 - (cellsOfAPlace - 1 - b) ≡ b = omega arith in rw e
 
   cell-behind : (b : ℕ) → b < cellsOfAPlace
-      → arrivedIn cells p highest (cellsOfAPlace - 1 - b) ≡ isFilled (readCell (cellAt cells p (distanceOf highest b)))
+      → hasArrived cells p highest (cellsOfAPlace - 1 - b) ≡ isFilled (readCell (cellAt cells p (distanceOf highest b)))
   cell-behind b l = ap (λ (n : ℕ). isFilled (readCell (cellAt cells p n))) (behind b l)
 
-  not-arrived : (b : ℕ) → b < cellsOfAPlace → arrivedIn cells p highest (cellsOfAPlace - 1 - b) ≡ false → NotArrived cells p highest b
+  not-arrived : (b : ℕ) → b < cellsOfAPlace → hasArrived cells p highest (cellsOfAPlace - 1 - b) ≡ false → NotArrived cells p highest b
   not-arrived b l t = empty-is _ (sym (cell-behind b l) ∙ t)
 
-  by-search : (f : Found) → firstFrom (arrivedIn cells p highest) 0 cellsOfAPlace ≡ f → OldestIs cells p highest (numberFound highest f)
+  by-search : (f : Found) → firstFrom (hasArrived cells p highest) 0 cellsOfAPlace ≡ f → OldestIs cells p highest (numberFound highest f)
   by-search (At i) e =
-      let l = first-below (arrivedIn cells p highest) cellsOfAPlace 0 i e in
-      let f = filled-is _ (first-true (arrivedIn cells p highest) cellsOfAPlace 0 i e) in
+      let l = first-below (hasArrived cells p highest) cellsOfAPlace 0 i e in
+      let f = filled-is _ (first-true (hasArrived cells p highest) cellsOfAPlace 0 i e) in
       arrived (cellsOfAPlace - 1 - i) (f .0) (f .1 .0) (omega arith) (f .1 .1)
-      (λ c a b. not-arrived c b (first-before (arrivedIn cells p highest) cellsOfAPlace 0 i (cellsOfAPlace - 1 - c) e (omega arith) (omega arith)))
+      (λ c a b. not-arrived c b (first-before (hasArrived cells p highest) cellsOfAPlace 0 i (cellsOfAPlace - 1 - c) e (omega arith) (omega arith)))
   by-search Nothing e =
-      none (λ c l. not-arrived c l (first-false (arrivedIn cells p highest) cellsOfAPlace 0 (cellsOfAPlace - 1 - c) e (omega arith) (omega arith)))
+      none (λ c l. not-arrived c l (first-false (hasArrived cells p highest) cellsOfAPlace 0 (cellsOfAPlace - 1 - c) e (omega arith) (omega arith)))
 
   pub oldest-is : OldestIs cells p highest (oldestIn cells p highest)
   unfolding oldestIn
-  oldest-is = by-search (firstFrom (arrivedIn cells p highest) 0 cellsOfAPlace) refl
+  oldest-is = by-search (firstFrom (hasArrived cells p highest) 0 cellsOfAPlace) refl
 
   -- a number of the window that did not arrive, by its place in the window
-  not-filled : (i : ℕ) → i < cellsOfAPlace → NotArrived cells p highest (cellsOfAPlace - 1 - i) → arrivedIn cells p highest i ≡ false
+  not-filled : (i : ℕ) → i < cellsOfAPlace → NotArrived cells p highest (cellsOfAPlace - 1 - i) → hasArrived cells p highest i ≡ false
   not-filled i l e = ap isFilled e
 
   -- and no other number is
   pub oldest-only : (n : ℕ) → OldestIs cells p highest n → n ≡ oldestIn cells p highest
   unfolding oldestIn
   oldest-only n (arrived b mark time l f before) =
-      let found : firstFrom (arrivedIn cells p highest) 0 cellsOfAPlace ≡ At (cellsOfAPlace - 1 - b) =
-      first-at (arrivedIn cells p highest) cellsOfAPlace 0 (cellsOfAPlace - 1 - b) (omega arith) (omega arith) (cell-behind b l ∙ ap isFilled f)
+      let found : firstFrom (hasArrived cells p highest) 0 cellsOfAPlace ≡ At (cellsOfAPlace - 1 - b) =
+      first-at (hasArrived cells p highest) cellsOfAPlace 0 (cellsOfAPlace - 1 - b) (omega arith) (omega arith) (cell-behind b l ∙ ap isFilled f)
       (λ i a g. not-filled i (omega arith) (before (cellsOfAPlace - 1 - i) (omega arith) (omega arith))) in
       rw found (sym (behind b l))
   oldest-only n (none before) =
-      let found : firstFrom (arrivedIn cells p highest) 0 cellsOfAPlace ≡ Nothing =
-      first-nothing (arrivedIn cells p highest) cellsOfAPlace (λ i l. not-filled i l (before (cellsOfAPlace - 1 - i) (omega arith))) in
+      let found : firstFrom (hasArrived cells p highest) 0 cellsOfAPlace ≡ Nothing =
+      first-nothing (hasArrived cells p highest) cellsOfAPlace (λ i l. not-filled i l (before (cellsOfAPlace - 1 - i) (omega arith))) in
       rw found
 
--- the range that starts with the oldest number and ends with highest lies in the window, so the writer accepts it
+-- the range that starts with the oldest number and ends with highest lies in the window: the writer
+-- does not refuse it with 9
 pub oldest-range : (cells : List ℕ) (p highest n : ℕ) → highest < sequenceNumbers → OldestIs cells p highest n → InWindow highest n (distanceOf highest n + 1)
 oldest-range cells p highest n h o = record { some = λ g. (near n o, omega arith); none = λ e. absurd (omega arith) }
   where

@@ -1,5 +1,5 @@
--- The oldest number of a stream's window, by its accepted arrivals alone. An entry is an accepted arrival with its full
--- number.
+-- The oldest number of a stream's window, by its accepted arrivals alone. An entry is an accepted
+-- arrival with its full number.
 use Prim.Native.Nat.{ℕ, _+_, _≤_, _<_}
 use mathlib.Core.Path.{_≡_}
 use mathlib.Core.List.{List, List·Memᴰ}
@@ -8,7 +8,8 @@ use Rattle.history.specs.Calls.{Accepted}
 use Rattle.history.specs.Meaning.{Entry, topOf, entriesOf}
 use Rattle.feedback.specs.Seen.{StandsFor}
 
--- the sequence number s is the oldest of the window of a stream with these accepted arrivals
+-- the sequence number s is the oldest that arrived, of the window of a stream with these accepted
+-- arrivals
 pub record OldestArrived (history : List Accepted) (s : ℕ) : Type 0 where
   -- the full number for which s stands: the only one of the stream's window with these 16 bits
   pub full : ℕ

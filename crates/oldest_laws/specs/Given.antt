@@ -1,5 +1,5 @@
--- When the call for the oldest number of a stream gives which answer, one case for each rule, for a store of any lent
--- content. Of several refusals that apply the first is given: 4, 5.
+-- When the call for the oldest number of a stream gives which answer, one case for each rule, for a
+-- store of any lent content. Of several refusals that apply the first is given: 4, 5.
 use Prim.Native.Nat.{ℕ, _≤_, _<_}
 use mathlib.Core.Path.{_≡_}
 use mathlib.Core.List.{List}
@@ -21,7 +21,7 @@ use Rattle.oldest.specs.declared.OldestAnswer.the-variants as answer
 abbrev pub NotArrived : List ℕ → ℕ → ℕ → ℕ → Type 0
 NotArrived cells place highest b = readCell (cellAt cells place (distanceOf highest b)) ≡ Empty
 
--- the oldest number of the window of a place that ends with highest
+-- the oldest number that arrived, of the window of a place that ends with highest
 pub data OldestIs (cells : List ℕ) (place highest : ℕ) : ℕ → Type 0 where
   -- the number b behind highest arrived, and none of the window before it
   arrived : (b mark : ℕ) (time : Time) → b < cellsOfAPlace → readCell (cellAt cells place (distanceOf highest b)) ≡ Filled mark time
@@ -29,6 +29,7 @@ pub data OldestIs (cells : List ℕ) (place highest : ℕ) : ℕ → Type 0 wher
   -- none of the window arrived: highest
   none : ((c : ℕ) → c < cellsOfAPlace → NotArrived cells place highest c) → OldestIs cells place highest highest
 
+-- asking for the oldest number of the place k: 4, 5
 pub data OldestGiven (places cells : List ℕ) (k : ℕ) : OldestAnswer → Type 0 where
   badStore : Misshapen places cells → OldestGiven places cells k (answer.Refused BadStore)
   notThere : Shaped places cells → length places ≤ k → OldestGiven places cells k (answer.Refused NotHeld)

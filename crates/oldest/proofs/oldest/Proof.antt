@@ -1,13 +1,12 @@
 -- `oldest::oldest` meets its contract. Assumes nothing.
-use mathlib.Core.Path.{_≡_, sym, ap, _∙_}
+use mathlib.Core.Path.{_≡_, sym, _∙_}
 use mathlib.Core.Bool.{true}
 use native.Mathlib.Omega.{arith}
 use borrow.Author.Needs.{needs}
 use borrow.Author.Tests.{not-true, not-false}
 use Rattle.places.specs.Shape.{shaped}
 use Rattle.places.proofs.Shape.{is-shaped}
-use Rattle.oldest.proofs.Calls.{oldest-misshapen, oldest-answered, oldest-past}
-use Rattle.oldest.specs.declared.OldestAnswer.the-variants as answer
+use Rattle.oldest.proofs.Calls.{oldest-misshapen, oldest-held, oldest-free, oldest-past}
 use Rattle.oldest.proofs.oldest.Statement.{statement}
 use Rattle.oldest.proofs.oldest.Tie as tie
 
@@ -34,13 +33,12 @@ returns-3 : tie.Need-returns-3
 returns-3 c =
     let h = c .before .before in
     let r = h .before .before in
-    ap answer.Number (c .oldest-in .ensures)
-    ∙ oldest-answered _ _ _ _ (shaped-here (r .before .before .before)) (sym (r .read-place .ensures) ∙ h .held .given .1)
+    oldest-held _ _ _ _ _ _ (shaped-here (r .before .before .before)) (sym (r .read-place .ensures) ∙ h .held .given .1) (c .oldest-in .ensures)
 
 returns-4 : tie.Need-returns-4
 returns-4 c =
     let r = c .before .before in
-    oldest-answered _ _ _ _ (shaped-here (r .before .before .before)) (sym (r .read-place .ensures) ∙ c .enum-told .given .1)
+    oldest-free _ _ _ (shaped-here (r .before .before .before)) (sym (r .read-place .ensures) ∙ c .enum-told .given .1)
 
 pub oldest-spec : {M : Type 1} → statement M
 oldest-spec =

@@ -1,65 +1,73 @@
--- `oldest::oldest_in` meets its contract. The invariant: the search starting at i finds what the search starting at 0
--- finds. Assumes nothing.
-use Prim.Native.Nat.{_-_, _≤_}
-use mathlib.Core.Path.{_≡_, refl, sym, ap, _∙_}
+-- `oldest::oldest_in` meets its contract. Assumes nothing.
+use Prim.Native.Nat.{_+_, _*_, _<_}
+use mathlib.Core.Path.{_≡_, sym, _∙_}
 use native.Mathlib.Omega.{arith}
 use borrow.Author.Needs.{needs}
-use Rattle.lists.specs.First.{firstFrom}
-use Rattle.lists.proofs.First.{first-hit, first-miss, first-none}
+use Rattle.lists.proofs.First.{first-below}
 use Rattle.ring.specs.Ring.{cellsOfAPlace}
-use Rattle.oldest.specs.Oldest.{arrivedIn, numberFound, oldestIn}
-use Rattle.oldest.proofs.Words.{arrived-is, arrived-not}
+use Rattle.oldest.specs.Steps.{firstFilled}
+use Rattle.oldest.proofs.Search.{newer, older, found-older, found-newer, found-none}
+use Rattle.lists.specs.declared.Found.the-variants.{At, Nothing}
 use Rattle.oldest.proofs.oldest_in.Statement.{statement}
 use Rattle.oldest.proofs.oldest_in.Tie as tie
 
-abbrev Inv-loop : tie.InvT-loop
-Inv-loop cells p highest base lowest i₀ i =
-    (i ≤ cellsOfAPlace) ×
-    (numberFound highest (firstFrom (arrivedIn cells p highest) i (cellsOfAPlace - i)) ≡ oldestIn cells p highest)
+-- where the first search found a cell
+told-older : (c : tie.After-among-older)
+    → let args = c .before .before .before .before .args in
+    firstFilled (args .cells .now) (cellsOfAPlace * args .p + newer (args .highest)) (older (args .highest)) ≡ At (c .among-older .given .0 .0)
+told-older c = sym (c .before .before .first-filled .ensures) ∙ c .among-older .given .1
 
-abbrev μ-loop : tie.MeasureT-loop
-μ-loop cells p highest base lowest i₀ i = cellsOfAPlace - i
+-- where it found none
+told-none : (c : tie.After-enum-told)
+    → let args = c .before .before .before .before .args in
+    firstFilled (args .cells .now) (cellsOfAPlace * args .p + newer (args .highest)) (older (args .highest)) ≡ Nothing
+told-none c = sym (c .before .before .first-filled .ensures) ∙ c .enum-told .given .1
 
-loop-holds : tie.Need-loop-holds Inv-loop μ-loop
-unfolding oldestIn
-loop-holds c = (search needs, refl)
+-- where the second search found a cell
+told-newer : (c : tie.After-among-newer)
+    → let args = c .before .before .before .before .before .before .before .args in
+    firstFilled (args .cells .now) (cellsOfAPlace * args .p) (newer (args .highest)) ≡ At (c .among-newer .given .0 .0)
+told-newer c = sym (c .before .before .first-filled2 .ensures) ∙ c .among-newer .given .1
 
-returns : tie.Need-returns Inv-loop μ-loop
-returns c =
-    let tested = c .before in
-    let loop = tested .before .before .before .loop in
-    let args = tested .before .before .before .before .before .args in
-    c .distance .ensures
-    ∙ sym (ap (numberFound (args .highest))
-    (first-hit _ _ _ (search needs) (arrived-is (args .cells .now) (args .p) (args .highest) (loop .i) (search needs) (tested .if1 .taken))))
-    ∙ loop .inv .1
+window-number-requires : tie.Need-window-number-requires
+window-number-requires c κs =
+    let l = first-below _ _ _ _ (told-older (c .before)) in omega arith
 
-loop-again : tie.Need-loop-again Inv-loop μ-loop
-loop-again c =
-    let loop = c .before .before .before .loop in
-    let args = c .before .before .before .before .before .args in (
-      search needs,
-      sym (ap (numberFound (args .highest))
-          (first-miss _ _ _ (search needs) (arrived-not (args .cells .now) (args .p) (args .highest) (loop .i) (search needs) (omega (arith, c .if1 .left)))))
-          ∙ loop .inv .1,
-    )
+returns : tie.Need-returns
+returns c = c .window-number .ensures ∙ found-older _ _ _ _ (told-older (c .before .before))
 
-returns-2 : tie.Need-returns-2 Inv-loop μ-loop
+below-newer : (c : tie.After-among-newer)
+    → let args = c .before .before .before .before .before .before .before .args in
+    c .among-newer .given .0 .0 < newer (args .highest)
+below-newer c = let l = first-below _ _ _ _ (told-newer c) in omega arith
+
+add-window-number : tie.Need-add-window-number
+add-window-number c = omega (arith, below-newer (c .before))
+
+window-number-requires-2 : tie.Need-window-number-requires-2
+window-number-requires-2 c κs = omega (arith, below-newer (c .before))
+
+returns-2 : tie.Need-returns-2
 returns-2 c =
-    let args = c .before .before .before .args in
-    sym (ap (numberFound (args .highest)) (first-none (arrivedIn (args .cells .now) (args .p) (args .highest)) _ _ (search needs))) ∙ c .before .loop .inv .1
+    let n = c .before .before in
+    c .window-number2 .ensures ∙ found-newer _ _ _ (told-none (n .before .before .before)) _ (told-newer n)
+
+returns-3 : tie.Need-returns-3
+returns-3 c =
+    let searched = c .before .before in
+    found-none _ _ _ (told-none (searched .before)) (sym (searched .first-filled2 .ensures) ∙ c .enum-told2 .given .1)
 
 pub oldest-in-spec : {M : Type 1} → statement M
 oldest-in-spec =
     tie.close
     (tie.spec
-    Inv-loop
-    μ-loop
-    (λ c. search needs) (λ c. search needs)
-    loop-holds
     (λ c. search needs) (λ c. search needs) (λ c. search needs) (λ c. search needs)
-    (λ c. search needs) (λ c. search needs) (λ c. search needs) (λ c κs. search needs)
+    (λ c κs. search needs) (λ c. search needs)
+    window-number-requires
     returns
-    (λ c. search needs) (λ c. search needs)
-    loop-again
-    returns-2)
+    (λ c. search needs) (λ c κs. search needs) (λ c. search needs)
+    add-window-number
+    window-number-requires-2
+    returns-2
+    (λ c. search needs)
+    returns-3)
