@@ -19,8 +19,8 @@ use Rattle.places.specs.declared.Holding.the-variants.{Free, Held}
 use Rattle.refusal.specs.declared.Refusal.the-variants.{BadStore, NotHeld}
 use Rattle.oldest.specs.declared.OldestAnswer.the-variants as answer
 
--- the numbers of the window that ends with highest, in rising order: number i, from 0, is 2,047 - i
--- behind highest
+-- the numbers of the window that ends with highest, in rising order: number i, from 0, is
+-- 2,047 - i behind highest
 abbrev pub windowNumber : ℕ → ℕ → ℕ
 windowNumber highest i = distanceOf highest (cellsOfAPlace - 1 - i)
 

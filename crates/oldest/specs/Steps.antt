@@ -1,5 +1,5 @@
--- The steps of the code: a search of cells that stand side by side. No statement for a caller needs
--- this.
+-- The steps of the code: a search of cells that stand side by side. No statement for a caller
+-- needs this.
 use Prim.Native.Nat.{ℕ, _+_}
 use mathlib.Core.Bool.{Bool}
 use mathlib.Core.List.{List}

@@ -43,8 +43,8 @@ fn first_filled(cells: &[u64], start: usize, count: usize) -> Found
 }
 
 // The oldest number that arrived, of the window of the place p that ends with highest; highest
-// where none did. The cells of the newer numbers, up to highest, stand at the front of the ring, and
-// those of the older ones behind them: two runs need no remainder for each cell.
+// where none did. The cells of the newer numbers, up to highest, stand at the front of the ring,
+// and those of the older ones behind them: two runs need no remainder for each cell.
 fn oldest_in(cells: &[u64], p: usize, highest: u16) -> u16
     requires room { ⌜ cellsOfAPlace * p + cellsOfAPlace ≤ length (now cells) ⌝ }
     ensures value { λ r. ⌜ r ≡ oldestIn (now (cells .entry)) p highest ⌝ }

@@ -1,5 +1,5 @@
--- The oldest number of a stream's window is the lowest that an accepted arrival had, for every list
--- of arrivals and forgets from a fresh store. Assumes nothing.
+-- The oldest number of a stream's window is the lowest that an accepted arrival had, for every
+-- list of arrivals and forgets from a fresh store. Assumes nothing.
 use Prim.Native.Nat.{ℕ, _-_, _%_, _<_, _≤_}
 use mathlib.Core.Path.{_≡_, sym, ap, _∙_}
 use mathlib.Core.List.{List, [], _∷_, List·Memᴰ, List·Memᴰ·not-nil, List·Memᴰ·cases-cons}

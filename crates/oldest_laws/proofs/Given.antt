@@ -1,5 +1,5 @@
--- The oldest number of a window, and each refusal, exactly when the rules give it, for a store of any
--- lent content. Assumes nothing.
+-- The oldest number of a window, and each refusal, exactly when the rules give it, for a store of
+-- any lent content. Assumes nothing.
 use Prim.Native.Nat.{ℕ, _+_, _-_, _<_}
 use mathlib.Core.Path.{_≡_, refl, sym, ap, _∙_}
 use mathlib.Core.Bool.{true, false, false≢true, true≢false}
@@ -90,8 +90,8 @@ module _ (cells : List ℕ) (p highest : ℕ) where
       first-nothing (hasArrived cells p highest) cellsOfAPlace (λ i l. not-filled i l (before (cellsOfAPlace - 1 - i) (omega arith))) in
       rw found
 
--- the range that starts with the oldest number and ends with highest lies in the window: the writer
--- does not refuse it with 9
+-- the range that starts with the oldest number and ends with highest lies in the window: the
+-- writer does not refuse it with 9
 pub oldest-range : (cells : List ℕ) (p highest n : ℕ) → highest < sequenceNumbers → OldestIs cells p highest n → InWindow highest n (distanceOf highest n + 1)
 oldest-range cells p highest n h o = record { some = λ g. (near n o, omega arith); none = λ e. absurd (omega arith) }
   where

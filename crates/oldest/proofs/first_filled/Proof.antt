@@ -1,5 +1,5 @@
--- `oldest::first_filled` meets its contract. The invariant: the search starting at i finds what the
--- search starting at 0 finds. Assumes nothing.
+-- `oldest::first_filled` meets its contract. The invariant: the search starting at i finds what
+-- the search starting at 0 finds. Assumes nothing.
 use Prim.Native.Nat.{_-_, _≤_}
 use mathlib.Core.Path.{_≡_, sym, _∙_}
 use native.Mathlib.Nat.{sub-zero}
