@@ -1,5 +1,5 @@
--- What `ccfb_encode_metric` answers. (What `ccfb_decode_metric` leaves behind its pointers is `caseBehind`
--- of ccfb_calls.)
+-- Rules: "Metric", "Reading a metric". What `ccfb_encode_metric` answers. (What
+-- `ccfb_decode_metric` leaves behind its pointers is `caseBehind` of ccfb_calls.)
 use Prim.Native.Nat.{ℕ}
 use mathlib.Core.Bool.{Bool, cond}
 use mathlib.Core.List.{[], _∷_}

@@ -1,5 +1,6 @@
--- What the calls for C that forget a stream, read a place and give its oldest number answer, 0 or
--- the number of a refusal, and what they leave in the places and behind their pointers.
+-- Rules: "Arrivals and the window", rules "Forgetting", "Place k" and "Oldest number". What the
+-- calls for C that forget a stream, read a place and give its oldest number answer, 0 or the number
+-- of a refusal, and what they leave in the places and behind their pointers.
 use Prim.Native.Nat.{ℕ}
 use mathlib.Core.List.{List, [], _∷_}
 use Rattle.refusal.specs.Numbers.{numberOf}

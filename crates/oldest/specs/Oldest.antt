@@ -1,4 +1,5 @@
--- The oldest sequence number of a stream's window that arrived, of any lent content of a store.
+-- Rules: "Arrivals and the window", rule "Oldest number". The oldest sequence number of a stream's
+-- window that arrived, of any lent content of a store.
 use Prim.Native.Nat.{ℕ, _-_}
 use mathlib.Core.Bool.{Bool, true, false, cond}
 use mathlib.Core.List.{List}

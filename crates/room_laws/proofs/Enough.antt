@@ -14,7 +14,7 @@ use Rattle.cutting.specs.Plan.{filledFrom, packetsFrom, mostPackets, plan, tota
 use Rattle.cutting.specs.declared.Request.{Request}
 use Rattle.cutting.proofs.Plan.{filled-none, filled-cases}
 use Rattle.cutting.proofs.FromRules.{length-whole}
-use Rattle.room_laws.specs.Room.{room, sumOfCounts, roomFor, Suffice}
+use Rattle.room_laws.specs.Room.{room, sumOfCounts, roomOfRequests, Suffice}
 
 -- ---- what is left to report, and the room for it
 
@@ -63,7 +63,7 @@ packets-within (suc most) limit (b ∷ w) l =
     omega (arith, packet-within (limit - 12) b w (omega arith), packets-within most limit (filledFrom (limit - 12) (b ∷ w) .rest) l)
 
 -- the octets of the plan, at any limit of 24 or more
-pub room-enough : (limit : ℕ) (rs : List Request) → leastLimit ≤ limit → totalOctets (plan limit rs) ≤ roomFor rs
+pub room-enough : (limit : ℕ) (rs : List Request) → leastLimit ≤ limit → totalOctets (plan limit rs) ≤ roomOfRequests rs
 room-enough limit rs l =
     let w : List CutBlock = wholeBlocks 0 rs in
     omega (arith, packets-within (mostPackets w) limit w l, counts-whole 0 rs, length-whole 0 rs)

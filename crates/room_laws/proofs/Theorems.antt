@@ -12,7 +12,7 @@ use Rattle.writer_laws.specs.Refused.{FirstFault, later, WritingGiven, inReques
 use Rattle.writer_laws.proofs.Refusals.{length-octets, refusals}
 use Rattle.ccfb_writer.specs.Writing.{writeCalledBy, writeCalled}
 use Rattle.call_laws.proofs.Numbers.{own-number}
-use Rattle.room_laws.specs.Room.{roomFor}
+use Rattle.room_laws.specs.Room.{roomOfRequests}
 use Rattle.room_laws.proofs.Enough.{room-enough}
 use Rattle.refusal.specs.declared.Refusal.the-variants.{OutputTooShort}
 use Rattle.sound_writer.specs.declared.Answer.the-variants.{Written, Refused}
@@ -27,7 +27,7 @@ answers-10 : (a : Answer) (out : List ℕ) (packets octets : ℕ)
 answers-10 (Written p o) out packets octets h = absurd (omega arith)
 answers-10 (Refused e) out packets octets h = ap Refused (own-number e OutputTooShort h)
 
-module _ (places cells : List ℕ) (sender rts limit n : ℕ) (rs : List Request) (out : List ℕ) (enough : roomFor rs ≤ length out) where
+module _ (places cells : List ℕ) (sender rts limit n : ℕ) (rs : List Request) (out : List ℕ) (enough : roomOfRequests rs ≤ length out) where
   not-given : WritingGiven places cells sender rts limit n rs out OutputTooShort → ⊥
   not-given (inRequest h f) = no-fault places _ rs f
   not-given (tooShort h a l) =

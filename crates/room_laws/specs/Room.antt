@@ -1,4 +1,5 @@
--- How many octets of output are enough for the writer at any limit: CCFB_ROOM of include/ccfb.h.
+-- Rules: "Writer", rule "Room". How many octets of output are enough for the writer at any limit:
+-- CCFB_ROOM of include/ccfb.h.
 use Prim.Native.Nat.{ℕ, _+_, _*_, _≤_}
 use mathlib.Core.List.{List, [], _∷_}
 use lib.ListN.{length}
@@ -18,8 +19,8 @@ sumOfCounts [] = 0
 sumOfCounts (r ∷ rs) = r .count + sumOfCounts rs
 
 -- the room for a list of requests
-abbrev pub roomFor : List Request → ℕ
-roomFor rs = room (sumOfCounts rs) (length rs)
+abbrev pub roomOfRequests : List Request → ℕ
+roomOfRequests rs = room (sumOfCounts rs) (length rs)
 
 -- `a` octets a number and `b` a request are enough for what the writer may accept: a limit from
 -- 24 to 9,000, and at most 16 requests of at most 2,048 numbers each
