@@ -1,11 +1,15 @@
 //! Links libccfb.a from the folder that CCFB_LIB_DIR names, a full path, or from where
-//! scripts/library puts it. `cargo doc`, `cargo check` and `cargo clippy` need no library.
+//! scripts/library or a release has it. `cargo doc`, `cargo check` and `cargo clippy` need no
+//! library.
 
 use std::env;
-use std::path::Path;
+use std::path::{Path, PathBuf};
 use std::process::exit;
 
 const LIBRARY: &str = "libccfb.a";
+
+/// Where it may be, beside this crate: as scripts/library puts it, and as a release has it.
+const FOLDERS: [&str; 2] = ["build/ccfb/lib", "lib"];
 
 /// Linked in place of a library that is not there: the linker repeats the name of what it cannot
 /// find. A warning is not enough, since cargo shows it for path dependencies only.
@@ -14,10 +18,9 @@ const NOT_THERE: &str = "ccfb (run scripts/library, or set CCFB_LIB_DIR)";
 fn main() {
     println!("cargo::rerun-if-changed=build.rs");
     println!("cargo::rerun-if-env-changed=CCFB_LIB_DIR");
-    let beside_the_crate = Path::new(env!("CARGO_MANIFEST_DIR")).with_file_name("build");
     match env::var_os("CCFB_LIB_DIR") {
         Some(folder) => link_named(Path::new(&folder)),
-        None => link_built(&beside_the_crate.join("ccfb/lib")),
+        None => link_beside(),
     }
 }
 
@@ -36,17 +39,20 @@ fn link_named(folder: &Path) {
     link(folder);
 }
 
-/// Links from the folder of scripts/library. If the library is not there, only linking fails.
-fn link_built(folder: &Path) {
-    let library = folder.join(LIBRARY);
-    if library.is_file() {
+/// Links from a folder beside the crate. If the library is not there, only linking fails.
+fn link_beside() {
+    let beside = |folder| Path::new(env!("CARGO_MANIFEST_DIR")).with_file_name(folder);
+    let folders: Vec<PathBuf> = FOLDERS.iter().map(beside).collect();
+    if let Some(folder) = folders.iter().find(|folder| folder.join(LIBRARY).is_file()) {
         return link(folder);
     }
-    println!("cargo::rerun-if-changed={}", library.display());
+    for folder in &folders {
+        println!("cargo::rerun-if-changed={}", folder.join(LIBRARY).display());
+    }
     println!(
         "cargo::warning={} is not there, so programs and tests will not link: run \
          scripts/library, or set CCFB_LIB_DIR to the full path of the folder of {LIBRARY}",
-        library.display()
+        folders[0].join(LIBRARY).display()
     );
     println!("cargo::rustc-link-lib=static:-bundle={NOT_THERE}"); // not looked for until then
 }

@@ -63,8 +63,8 @@
 //! # Linking
 //!
 //! The environment variable `CCFB_LIB_DIR` gives the full path of the folder of `libccfb.a`.
-//! Without it the crate looks where the product's `scripts/library` puts it. `cargo doc`,
-//! `cargo check` and `cargo clippy` work without the library.
+//! Without it the crate looks where `scripts/library` and a release have it, beside the crate's
+//! folder. `cargo doc`, `cargo check` and `cargo clippy` work without the library.
 //!
 //! [RFC 8888]: https://www.rfc-editor.org/rfc/rfc8888
 

@@ -13,7 +13,7 @@ macro_rules! refusals {
         ///
         /// let refusal = Packet::read(b"no packet").expect_err("nine octets");
         /// assert_eq!(refusal, Refusal::PacketTooShort);
-        /// assert_eq!(refusal.to_string(), "refused 21: packet under 12 octets");
+        /// assert_eq!(refusal.to_string(), "refused 21: packet shorter than 12 octets");
         /// ```
         #[derive(Clone, Copy, Debug, PartialEq, Eq, Hash)]
         #[non_exhaustive]
@@ -35,7 +35,7 @@ macro_rules! refusals {
             /// What it means, in words.
             ///
             /// ```
-            /// assert_eq!(ccfb::Refusal::Padded.meaning(), "padding flag set");
+            /// assert_eq!(ccfb::Refusal::Padded.meaning(), "padding flag is set");
             /// ```
             pub fn meaning(self) -> &'static str {
                 match self {
@@ -60,31 +60,30 @@ macro_rules! refusals {
 }
 
 refusals! {
-    1 BadMark "mark above 3"
-    2 NoFreePlace "unknown stream and no free place"
+    1 BadMark "ECN mark above 3"
+    2 NoFreePlace "new stream, and no place is free"
     3 TooOld "sequence number too old"
     4 BadStore "not 1 to 16 places, or not 2,048 cells for each"
-    5 NotHeld "stream not held, or the place asked for is free or not there"
-    6 BadLimit "size limit outside 24 to 9,000"
+    5 NotHeld "no such stream, or no stream in that place"
+    6 BadLimit "size limit below 24 or above 9,000"
     7 TooManyRequests "more than 16 requests"
-    8 StreamRepeated "stream named by an earlier request"
-    9 BadRange "range not in the stream's window"
-    10 OutputTooShort "output shorter than what is to be written"
-    11 BadFileMark "arrival file under 5 octets, or without its mark"
-    12 BadFileVersion "arrival file of a version that is not 1"
-    13 RecordCutShort "last record of the arrival file cut short"
-    14 BadRecord "record of the arrival file with a mark above 3, a flag above 1, \
-        or a time where none is known"
-    21 PacketTooShort "packet under 12 octets"
-    22 BadVersion "version not 2"
-    23 BadType "type not 205 or FMT not 11"
-    24 BadLength "length field disagrees with the octets given"
-    25 Padded "padding flag set"
-    26 RunsIntoRts "block header or metrics run into RTS"
+    8 StreamRepeated "an earlier request names the same stream"
+    9 BadRange "range not within the stream's window"
+    10 OutputTooShort "output too short"
+    11 BadFileMark "not an arrival file"
+    12 BadFileVersion "arrival file of an unknown version"
+    13 RecordCutShort "arrival file ends within a record"
+    14 BadRecord "arrival file has a bad record"
+    21 PacketTooShort "packet shorter than 12 octets"
+    22 BadVersion "RTCP version is not 2"
+    23 BadType "not a CCFB packet: type is not 205, or FMT not 11"
+    24 BadLength "length field does not match the packet's length"
+    25 Padded "padding flag is set"
+    26 RunsIntoRts "report block runs into RTS"
     27 TooManyReports "num_reports above 16,384"
-    28 FillerNotZero "filler not zero"
-    29 NoBlock "no such block"
-    30 NoNumber "no such number in the block"
+    28 FillerNotZero "filler is not zero"
+    29 NoBlock "no such report block"
+    30 NoNumber "no such sequence number in the block"
 }
 
 impl Refusal {

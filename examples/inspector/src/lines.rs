@@ -87,7 +87,7 @@ mod tests {
         let (text, taken) = shown("8bcd\nrefused 13\nrefused 99\n");
         assert_eq!(taken, 0);
         let lines: Vec<&str> = text.lines().collect();
-        assert_eq!(lines[0], "line 1: 2 octets, refused 21: packet under 12 octets");
+        assert_eq!(lines[0], "line 1: 2 octets, refused 21: packet shorter than 12 octets");
         assert!(lines[1].starts_with("line 2: ccfbline refused 13: "));
         assert_eq!(lines[2], "line 3: no hex, 'r' in column 1");
     }

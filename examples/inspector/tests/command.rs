@@ -88,6 +88,9 @@ fn all_is_drawn_though_nobody_reads_the_text() {
 fn a_refused_packet_is_not_drawn() {
     let file = fresh("refused.svg");
     let output = run(&["--svg", file.to_str().expect("plain text")], "8bcd\n");
-    assert_eq!(said(&output.stdout), "line 1: 2 octets, refused 21: packet under 12 octets\n");
+    assert_eq!(
+        said(&output.stdout),
+        "line 1: 2 octets, refused 21: packet shorter than 12 octets\n"
+    );
     assert!(fs::read_to_string(file).expect("a drawing").contains(">No CCFB packet<"));
 }
