@@ -1,10 +1,30 @@
 /*
  * Nadrwythol: RTCP Congestion Control Feedback (CCFB, RFC 8888).
  *
- * Every call returns 0 or the number of its refusal, but for ccfb_decode_metric, which refuses
- * nothing. A refused call leaves the caller's memory unchanged; only ccfb_block_metrics then sets
- * its two outputs to 0. Pass valid pointers, never NULL, even for an empty array; memory that a
- * call writes must not overlap its other arguments. docs/MANUAL.md says what each call does.
+ * A receiver records RTP arrivals in a store (ccfb_arrive) and writes feedback from it
+ * (ccfb_write); a sender reads the feedback (ccfb_read and what follows). docs/MANUAL.md explains
+ * each call with an example, docs/RULES.md has the exact rules.
+ *
+ * Answers. A call that can be refused returns 0, or the number of its refusal: the first one that
+ * applies, in the order that stands at the call. ccfb_refusal_text puts a number into words. A
+ * refused call leaves the caller's memory unchanged; only ccfb_block_metrics then sets its two
+ * outputs to 0.
+ *
+ * Pointers. A pointer to a single value must be valid. A pointer with a length must be valid for
+ * that many elements; with length 0 it may be NULL. Lengths count elements of the array's type,
+ * which for packets are octets. Any value is safe to pass for what is not a pointer or a length.
+ *
+ * Overlap. Memory that a call writes must not overlap any other memory that is passed to it. So a
+ * packet cannot be rewritten in place, and two outputs cannot be one variable. What a call only
+ * reads may overlap.
+ *
+ * Threads. The library keeps nothing between calls, allocates nothing, and calls nothing but
+ * memset and memcpy. Any thread may call it, also within a signal handler. Two calls at the same
+ * time must not share memory that one of them writes: guard a store by a lock, or have one for
+ * each thread.
+ *
+ * bool. time_known is 0 or 1, as C makes every bool. If another octet gets here, from another
+ * language say, its lowest bit alone counts.
  */
 #ifndef CCFB_H
 #define CCFB_H
@@ -17,29 +37,34 @@
 extern "C" {
 #endif
 
-/* Refusals. */
-#define CCFB_BAD_MARK 1
-#define CCFB_NO_FREE_PLACE 2
-#define CCFB_TOO_OLD 3
-#define CCFB_BAD_STORE 4
-#define CCFB_NOT_HELD 5
-#define CCFB_BAD_LIMIT 6
-#define CCFB_TOO_MANY_REQUESTS 7
-#define CCFB_STREAM_REPEATED 8
-#define CCFB_BAD_RANGE 9
-#define CCFB_OUTPUT_TOO_SHORT 10
-#define CCFB_PACKET_TOO_SHORT 21
-#define CCFB_BAD_VERSION 22
-#define CCFB_BAD_TYPE 23
-#define CCFB_BAD_LENGTH 24
-#define CCFB_PADDED 25
-#define CCFB_RUNS_INTO_RTS 26
-#define CCFB_TOO_MANY_REPORTS 27
-#define CCFB_FILLER_NOT_ZERO 28
-#define CCFB_NO_BLOCK 29
-#define CCFB_NO_NUMBER 30
+#define CCFB_VERSION_MAJOR 0
+#define CCFB_VERSION_MINOR 2
+#define CCFB_VERSION_PATCH 0
+#define CCFB_VERSION "0.2.0"
 
-/* ---- Metrics */
+/* Refusals. */
+#define CCFB_BAD_MARK 1          /* ECN mark above 3 */
+#define CCFB_NO_FREE_PLACE 2     /* new stream, and no place is free */
+#define CCFB_TOO_OLD 3           /* sequence number too old */
+#define CCFB_BAD_STORE 4         /* not 1 to 16 places, or not 2,048 cells for each */
+#define CCFB_NOT_HELD 5          /* no such stream, or no stream in that place */
+#define CCFB_BAD_LIMIT 6         /* size limit below 24 or above 9,000 */
+#define CCFB_TOO_MANY_REQUESTS 7 /* more than 16 requests */
+#define CCFB_STREAM_REPEATED 8   /* an earlier request names the same stream */
+#define CCFB_BAD_RANGE 9         /* range not within the stream's window */
+#define CCFB_OUTPUT_TOO_SHORT 10 /* output too short */
+#define CCFB_PACKET_TOO_SHORT 21 /* packet shorter than 12 octets */
+#define CCFB_BAD_VERSION 22      /* RTCP version is not 2 */
+#define CCFB_BAD_TYPE 23         /* not a CCFB packet: type is not 205, or FMT not 11 */
+#define CCFB_BAD_LENGTH 24       /* length field does not match the packet's length */
+#define CCFB_PADDED 25           /* padding flag is set */
+#define CCFB_RUNS_INTO_RTS 26    /* report block runs into RTS */
+#define CCFB_TOO_MANY_REPORTS 27 /* num_reports above 16,384 */
+#define CCFB_FILLER_NOT_ZERO 28  /* filler is not zero */
+#define CCFB_NO_BLOCK 29         /* no such report block */
+#define CCFB_NO_NUMBER 30        /* no such sequence number in the block */
+
+/* ---- Metrics: what feedback says of one sequence number */
 
 /* ECN marks (RFC 3168). */
 #define CCFB_NOT_ECT 0
@@ -50,58 +75,132 @@ extern "C" {
 /* The metric of a sequence number that was not received. */
 #define CCFB_METRIC_NOT_RECEIVED 0x0000
 
-/* The kinds of metric. Only CCFB_RECEIVED has an offset. */
-#define CCFB_NOT_RECEIVED 0
-#define CCFB_RECEIVED 1
-#define CCFB_OVER_RANGE 2
-#define CCFB_NO_TIME 3
+/* The kinds of metric. */
+#define CCFB_NOT_RECEIVED 0 /* neither a mark nor an offset */
+#define CCFB_RECEIVED 1     /* a mark and an offset */
+#define CCFB_OVER_RANGE 2   /* a mark; it arrived longer ago than an offset can say */
+#define CCFB_NO_TIME 3      /* a mark; its time is unknown, or after RTS */
 
 /*
- * The 16-bit metric of a sequence number that arrived with this ECN mark at this time. time and
- * rts count 1/65536 s (the middle 32 bits of an NTP timestamp); time is ignored unless time_known.
- * Refusal 1: mark above 3.
+ * The 16-bit metric of a sequence number that arrived.
+ *
+ *   mark         the packet's ECN mark, CCFB_NOT_ECT to CCFB_CE
+ *   time_known   whether time says when it arrived
+ *   time, rts    counts of 1/65536 s: 16 bits of an NTP timestamp's seconds, 16 of its fraction
+ *
+ * Returns 0, or this; *metric is then unchanged:
+ *   CCFB_BAD_MARK   mark is above 3
  */
 uint8_t ccfb_encode_metric(uint8_t mark, bool time_known, uint32_t time, uint32_t rts,
                            uint16_t *metric);
 
 /*
- * Returns the kind of a metric. Writes *mark unless the kind is CCFB_NOT_RECEIVED, and *offset, in
- * 1/1024 s and at most 8189, if it is CCFB_RECEIVED; otherwise they stay as they were.
+ * What a metric says. Refuses nothing.
+ *
+ *   kind     always written: CCFB_NOT_RECEIVED to CCFB_NO_TIME
+ *   mark     written unless the kind is CCFB_NOT_RECEIVED
+ *   offset   written if the kind is CCFB_RECEIVED: the arrival time offset, how long before RTS
+ *            the packet arrived, in 1/1024 s; at most 8189
  */
-uint8_t ccfb_decode_metric(uint16_t metric, uint8_t *mark, uint16_t *offset);
+void ccfb_decode_metric(uint16_t metric, uint8_t *kind, uint8_t *mark, uint16_t *offset);
 
 /* ---- The store of arrivals: two arrays that the caller owns, zeroed at the start */
 
-#define CCFB_MOST_PLACES 16
-#define CCFB_CELLS_OF_A_PLACE 2048
+#define CCFB_MOST_PLACES 16        /* streams that a store can hold */
+#define CCFB_CELLS_OF_A_PLACE 2048 /* sequence numbers of a stream that it knows of */
 #define CCFB_CELLS(places) (CCFB_CELLS_OF_A_PLACE * (places))
 
-/* Records one arrival. Refusals in order: 4, 1, then 3 or 2. */
+/*
+ * Records one received RTP packet.
+ *
+ * A duplicate keeps the first copy's time and ECN mark, except that the mark becomes ECN-CE if any
+ * copy carried it. A new stream takes the free place with the lowest index.
+ *
+ *   places, cells   the store: n places and CCFB_CELLS(n) cells, n from 1 to 16
+ *   mark            the packet's ECN mark, CCFB_NOT_ECT to CCFB_CE
+ *   time_known      whether time says when it arrived
+ *   time            when it arrived, in 1/65536 s; ignored unless time_known
+ *
+ * Returns 0, or the first of these that applies; the store is then unchanged:
+ *   CCFB_BAD_STORE       the lengths are not as above
+ *   CCFB_BAD_MARK        mark is above 3
+ *   CCFB_TOO_OLD         the stream is held, and the number is 2,048 or more behind its highest
+ *   CCFB_NO_FREE_PLACE   a new stream, and no place is free
+ */
 uint8_t ccfb_arrive(uint64_t *places, size_t places_len, uint64_t *cells, size_t cells_len,
                     uint32_t ssrc, uint16_t number, uint8_t mark, bool time_known, uint32_t time);
 
-/* Forgets a stream and frees its place. Refusals: 4, 5. */
+/*
+ * Forgets a stream and frees its place.
+ *
+ * Returns 0, or the first of these that applies; the store is then unchanged:
+ *   CCFB_BAD_STORE   the lengths are not those of a store
+ *   CCFB_NOT_HELD    no place holds the stream
+ */
 uint8_t ccfb_forget(uint64_t *places, size_t places_len, const uint64_t *cells, size_t cells_len,
                     uint32_t ssrc);
 
-/* The stream that place k, from 0, holds, and its highest sequence number. Refusals: 4, 5. */
+/*
+ * The stream that place k, from 0, holds, and its highest sequence number.
+ *
+ * Returns 0, or the first of these that applies:
+ *   CCFB_BAD_STORE   the lengths are not those of a store
+ *   CCFB_NOT_HELD    the place is free, or k is not below places_len
+ */
 uint8_t ccfb_place(const uint64_t *places, size_t places_len, const uint64_t *cells,
                    size_t cells_len, size_t k, uint32_t *ssrc, uint16_t *highest);
 
+/*
+ * The oldest sequence number that arrived, among the 2,048 that are known of the stream of place k,
+ * from 0. A first report on a stream starts here: what comes before was never received, and may
+ * never have been sent to this receiver.
+ *
+ * Returns 0, or a refusal as ccfb_place does.
+ */
+uint8_t ccfb_oldest(const uint64_t *places, size_t places_len, const uint64_t *cells,
+                    size_t cells_len, size_t k, uint16_t *oldest);
+
 /* ---- Writing feedback */
 
-/* A request: count sequence numbers of a stream, starting at begin. */
+/*
+ * A request: count sequence numbers of a stream, starting at begin. Ask for those since the last
+ * report, and the first time for those since ccfb_oldest: a number from before the first arrival
+ * would be reported as missing, and its sender would take that for loss.
+ */
 struct ccfb_request {
     uint32_t ssrc;
     uint16_t begin;
     uint16_t count;
 };
 
+#define CCFB_MOST_REQUESTS 16
+#define CCFB_LEAST_LIMIT 24 /* octets of a packet */
+#define CCFB_MOST_LIMIT 9000
+
+/* Octets of output that are enough for so many requests with so many numbers in all. */
+#define CCFB_ROOM(numbers, requests) (12 * (numbers) + 20 * (requests))
+
 /*
- * Writes feedback on at most 16 requests to the start of out: the fewest packets possible of at
- * most limit octets each (24 to 9,000), back to back, with the SSRC sender and the RTS rts.
- * *packets is how many there are and *octets their total length; the rest of out stays as it was.
- * Refusals in order: 4, 6, 7, then request by request 5, 8, 9, then 10.
+ * Writes feedback on the requests to the start of out: the fewest packets possible of at most
+ * limit octets each, back to back.
+ *
+ *   sender, rts       the SSRC of the packets' sender, and the report timestamp in 1/65536 s
+ *   limit             the most octets of one packet, CCFB_LEAST_LIMIT to CCFB_MOST_LIMIT
+ *   requests          at most 16, each for another stream
+ *   out               CCFB_ROOM octets are enough; what is behind the packets stays as it was
+ *   packets, octets   how many packets were written, and their total length
+ *
+ * Returns 0, or the first of these that applies; nothing is written then:
+ *   CCFB_BAD_STORE           the lengths are not those of a store
+ *   CCFB_BAD_LIMIT           limit is outside 24 to 9,000
+ *   CCFB_TOO_MANY_REQUESTS   there are more than 16
+ *   then, request by request:
+ *   CCFB_NOT_HELD            no place holds its stream
+ *   CCFB_STREAM_REPEATED     an earlier request names its stream
+ *   CCFB_BAD_RANGE           a number is not among the 2,048 up to the stream's highest; or count
+ *                            is 0 and begin is not the highest
+ *   and at the end:
+ *   CCFB_OUTPUT_TOO_SHORT    out is shorter than the packets
  */
 uint8_t ccfb_write(const uint64_t *places, size_t places_len, const uint64_t *cells,
                    size_t cells_len, uint32_t sender, uint32_t rts, size_t limit,
@@ -113,38 +212,67 @@ uint8_t ccfb_write(const uint64_t *places, size_t places_len, const uint64_t *ce
 /* No report block has more metrics. */
 #define CCFB_MOST_REPORTS 16384
 
-/* The sender, RTS and the number of report blocks. Refusals: 21 to 28. */
+/*
+ * The sender, RTS and the number of report blocks of a packet, which is checked as a whole.
+ *
+ * Returns 0, or the first of these that applies; nothing is written then:
+ *   CCFB_PACKET_TOO_SHORT, CCFB_BAD_VERSION, CCFB_BAD_TYPE, CCFB_BAD_LENGTH, CCFB_PADDED
+ *   then, block by block:
+ *   CCFB_RUNS_INTO_RTS       no room for its header before RTS
+ *   CCFB_TOO_MANY_REPORTS    num_reports is above 16,384
+ *   CCFB_RUNS_INTO_RTS       no room for its metrics before RTS
+ *   CCFB_FILLER_NOT_ZERO     the 16 bits behind an odd number of metrics are not zero
+ */
 uint8_t ccfb_read(const uint8_t *packet, size_t len, uint32_t *sender, uint32_t *rts,
                   size_t *blocks);
 
-/* Block k, from 0: its SSRC, begin_seq and num_reports. Refusals: 21 to 29. */
+/*
+ * The SSRC, begin_seq and num_reports of block k, from 0.
+ *
+ * Returns 0, or a refusal as ccfb_read does, or then:
+ *   CCFB_NO_BLOCK   k is not below the number of blocks
+ */
 uint8_t ccfb_block(const uint8_t *packet, size_t len, size_t k, uint32_t *ssrc, uint16_t *begin,
                    uint16_t *count);
 
 /*
  * The part of the packet that holds the metrics of block k, 2 octets for each number: the octet
- * where it starts and its length in octets. Refusals: 21 to 29; both are then 0.
+ * where it starts and its length in octets.
+ *
+ * Returns 0, or a refusal as ccfb_block does; both outputs are then 0.
  */
 uint8_t ccfb_block_metrics(const uint8_t *packet, size_t len, size_t k, size_t *metrics_at,
                            size_t *metrics_length);
 
 /*
- * Metric j of block k, both from 0: its sequence number, its kind, and what ccfb_decode_metric
- * writes for that kind. Refusals: 21 to 30.
+ * Metric j of block k, both from 0: its sequence number, its kind, and the mark and the offset as
+ * ccfb_decode_metric writes them.
+ *
+ * Returns 0, or a refusal as ccfb_block does, or then:
+ *   CCFB_NO_NUMBER   j is not below the block's num_reports
  */
 uint8_t ccfb_metric(const uint8_t *packet, size_t len, size_t k, size_t j, uint16_t *number,
                     uint8_t *kind, uint8_t *mark, uint16_t *offset);
 
 /*
- * All blocks in one pass: ccfb_first_block sets *at (refusals 21 to 25), and each ccfb_next_block
- * reads the block there and moves *at past it; *metrics_at is the octet where its metrics start.
- * Refusals: 26 to 28, and 29 after the last block.
+ * All blocks in one pass. ccfb_first_block sets *at; each ccfb_next_block reads the block there,
+ * as ccfb_block does, and moves *at past it. *metrics_at is the octet where its metrics start.
+ *
+ * ccfb_first_block returns 0, or the first that applies of CCFB_PACKET_TOO_SHORT to CCFB_PADDED.
+ * ccfb_next_block returns 0, CCFB_NO_BLOCK after the last block, or what is wrong with the block:
+ * CCFB_RUNS_INTO_RTS, CCFB_TOO_MANY_REPORTS, CCFB_FILLER_NOT_ZERO. Nothing is written then.
  */
 uint8_t ccfb_first_block(const uint8_t *packet, size_t len, size_t *at);
 uint8_t ccfb_next_block(const uint8_t *packet, size_t len, size_t *at, uint32_t *ssrc,
                         uint16_t *begin, uint16_t *count, size_t *metrics_at);
 
-/* Metric j, from 0, of a part that holds the metrics of a block, in one step. Refusal: 30. */
+/*
+ * Metric j, from 0, of a part that holds the metrics of a block, in one step: packet + metrics_at
+ * and 2 * count of a block. Kind, mark and offset are as ccfb_decode_metric writes them.
+ *
+ * Returns 0, or this; nothing is written then:
+ *   CCFB_NO_NUMBER   j is not below len / 2
+ */
 uint8_t ccfb_metric_at(const uint8_t *part, size_t len, size_t j, uint8_t *kind, uint8_t *mark,
                        uint16_t *offset);
 
@@ -161,8 +289,6 @@ uint8_t ccfb_metric_at(const uint8_t *part, size_t len, size_t j, uint8_t *kind,
  *   kinds_len, marks_len,   how many entries each array has (entries, not octets); those after the
  *   offsets_len             first len / 2 stay as they were
  *
- * The arrays must not overlap each other or the part. No pointer may be NULL, even if len is 0.
- *
  * Returns 0, or this; the arrays are then unchanged:
  *   CCFB_OUTPUT_TOO_SHORT   an array has fewer than len / 2 entries
  */
@@ -171,12 +297,53 @@ uint8_t ccfb_decode_metrics(const uint8_t *part, size_t len, uint8_t *kinds, siz
                             size_t offsets_len);
 
 /*
- * Writes the packet to the start of out with each not-received metric set to 0x0000 and the rest
- * unchanged. *written is how many octets; the rest of out stays as it was.
- * Refusals: 21 to 28, then 10.
+ * Writes the packet to the start of out with the bits cleared that a reader ignores: those of
+ * metrics that say "not received". *written is how many octets; what is behind them stays as it
+ * was. out must not overlap packet.
+ *
+ * Returns 0, or a refusal as ccfb_read does, or then this; nothing is written then:
+ *   CCFB_OUTPUT_TOO_SHORT   out is shorter than the packet
  */
 uint8_t ccfb_rewrite(const uint8_t *packet, size_t len, uint8_t *out, size_t out_len,
                      size_t *written);
+
+/* ---- Refusals in words */
+
+/*
+ * The meaning of an answer: that of a refusal, also of those that ccfbline prints (11 to 14);
+ * "accepted" for 0; "unknown refusal" for a number that is none.
+ */
+static inline const char *ccfb_refusal_text(uint8_t refused)
+{
+    switch (refused) {
+    case 0: return "accepted";
+    case CCFB_BAD_MARK: return "ECN mark above 3";
+    case CCFB_NO_FREE_PLACE: return "new stream, and no place is free";
+    case CCFB_TOO_OLD: return "sequence number too old";
+    case CCFB_BAD_STORE: return "not 1 to 16 places, or not 2,048 cells for each";
+    case CCFB_NOT_HELD: return "no such stream, or no stream in that place";
+    case CCFB_BAD_LIMIT: return "size limit below 24 or above 9,000";
+    case CCFB_TOO_MANY_REQUESTS: return "more than 16 requests";
+    case CCFB_STREAM_REPEATED: return "an earlier request names the same stream";
+    case CCFB_BAD_RANGE: return "range not within the stream's window";
+    case CCFB_OUTPUT_TOO_SHORT: return "output too short";
+    case 11: return "not an arrival file";
+    case 12: return "arrival file of an unknown version";
+    case 13: return "arrival file ends within a record";
+    case 14: return "arrival file has a bad record";
+    case CCFB_PACKET_TOO_SHORT: return "packet shorter than 12 octets";
+    case CCFB_BAD_VERSION: return "RTCP version is not 2";
+    case CCFB_BAD_TYPE: return "not a CCFB packet: type is not 205, or FMT not 11";
+    case CCFB_BAD_LENGTH: return "length field does not match the packet's length";
+    case CCFB_PADDED: return "padding flag is set";
+    case CCFB_RUNS_INTO_RTS: return "report block runs into RTS";
+    case CCFB_TOO_MANY_REPORTS: return "num_reports above 16,384";
+    case CCFB_FILLER_NOT_ZERO: return "filler is not zero";
+    case CCFB_NO_BLOCK: return "no such report block";
+    case CCFB_NO_NUMBER: return "no such sequence number in the block";
+    default: return "unknown refusal";
+    }
+}
 
 #ifdef __cplusplus
 }

@@ -1,0 +1,124 @@
+/*
+ * What the header promises beside the calls themselves: NULL with length 0, refusals in words, and
+ * room enough for any limit.
+ */
+#include "ccfb.h"
+
+#include <stdio.h>
+#include <string.h>
+
+static int wrong;
+
+static void check(bool holds, const char *what)
+{
+    if (!holds) {
+        printf("wrong: %s\n", what);
+        wrong = 1;
+    }
+}
+
+static void null_store(void)
+{
+    uint32_t ssrc;
+    uint16_t number;
+    size_t packets, octets;
+    check(ccfb_arrive(NULL, 0, NULL, 0, 7, 1, 0, true, 1) == CCFB_BAD_STORE, "arrive");
+    check(ccfb_forget(NULL, 0, NULL, 0, 7) == CCFB_BAD_STORE, "forget");
+    check(ccfb_place(NULL, 0, NULL, 0, 0, &ssrc, &number) == CCFB_BAD_STORE, "place");
+    check(ccfb_oldest(NULL, 0, NULL, 0, 0, &number) == CCFB_BAD_STORE, "oldest");
+    check(ccfb_write(NULL, 0, NULL, 0, 1, 2, 24, NULL, 0, NULL, 0, &packets, &octets) ==
+              CCFB_BAD_STORE,
+          "write from no store");
+}
+
+static void null_output(void)
+{
+    static uint64_t places[1], cells[CCFB_CELLS(1)];
+    struct ccfb_request request = {7, 1, 1};
+    size_t packets = 9, octets = 9;
+    check(ccfb_arrive(places, 1, cells, CCFB_CELLS(1), 7, 1, 0, true, 1) == 0, "an arrival");
+    check(ccfb_write(places, 1, cells, CCFB_CELLS(1), 1, 2, 24, &request, 1, NULL, 0, &packets,
+                     &octets) == CCFB_OUTPUT_TOO_SHORT,
+          "write to no output");
+    check(packets == 9 && octets == 9, "a refused write");
+    check(ccfb_write(places, 1, cells, CCFB_CELLS(1), 1, 2, 24, NULL, 0, NULL, 0, &packets,
+                     &octets) == 0,
+          "write of no request");
+    check(packets == 0 && octets == 0, "no packet");
+}
+
+static void null_packet(void)
+{
+    static const uint8_t empty[] = {0x8b, 0xcd, 0, 2, 0, 0, 0, 1, 0, 0, 0, 0};
+    uint32_t word, other;
+    uint16_t number, begin, count, offset;
+    uint8_t kind, mark;
+    size_t at, length;
+    check(ccfb_read(NULL, 0, &word, &other, &at) == CCFB_PACKET_TOO_SHORT, "read");
+    check(ccfb_block(NULL, 0, 0, &word, &begin, &count) == CCFB_PACKET_TOO_SHORT, "block");
+    check(ccfb_block_metrics(NULL, 0, 0, &at, &length) == CCFB_PACKET_TOO_SHORT, "metrics");
+    check(ccfb_metric(NULL, 0, 0, 0, &number, &kind, &mark, &offset) == CCFB_PACKET_TOO_SHORT,
+          "metric");
+    check(ccfb_first_block(NULL, 0, &at) == CCFB_PACKET_TOO_SHORT, "first block");
+    at = 12;
+    check(ccfb_next_block(NULL, 0, &at, &word, &begin, &count, &length) != 0 && at == 12,
+          "next block");
+    check(ccfb_metric_at(NULL, 0, 0, &kind, &mark, &offset) == CCFB_NO_NUMBER, "metric at");
+    check(ccfb_decode_metrics(NULL, 0, NULL, 0, NULL, 0, NULL, 0) == 0, "decode metrics");
+    check(ccfb_rewrite(NULL, 0, NULL, 0, &at) == CCFB_PACKET_TOO_SHORT, "rewrite");
+    check(ccfb_rewrite(empty, sizeof empty, NULL, 0, &at) == CCFB_OUTPUT_TOO_SHORT,
+          "rewrite to no output");
+}
+
+static void texts(void)
+{
+    check(strcmp(ccfb_refusal_text(0), "accepted") == 0, "text of 0");
+    check(strcmp(ccfb_refusal_text(CCFB_NO_BLOCK), "no such report block") == 0, "text of 29");
+    for (unsigned refused = 1; refused < 256; refused++) {
+        bool known = refused <= 14 || (21 <= refused && refused <= 30);
+        bool said = strcmp(ccfb_refusal_text((uint8_t)refused), "unknown refusal") != 0;
+        check(known == said, "which numbers have a text");
+    }
+    check(CCFB_VERSION_MAJOR == 0 && strlen(CCFB_VERSION) >= 5, "version");
+}
+
+/* Two streams with those counts, at that limit: the room is enough. */
+static void room_for(const uint64_t *places, const uint64_t *cells, uint16_t first,
+                     uint16_t second, size_t limit)
+{
+    static uint8_t out[CCFB_ROOM(32, 2)];
+    size_t packets, octets, room = CCFB_ROOM((size_t)first + second, 2);
+    struct ccfb_request requests[2];
+    requests[0].ssrc = 7;
+    requests[0].begin = (uint16_t)(first == 0 ? 15 : 16 - first);
+    requests[0].count = first;
+    requests[1].ssrc = 9;
+    requests[1].begin = (uint16_t)(second == 0 ? 15 : 16 - second);
+    requests[1].count = second;
+    check(ccfb_write(places, 2, cells, CCFB_CELLS(2), 1, 2, limit, requests, 2, out, room, &packets,
+                     &octets) == 0,
+          "room enough");
+}
+
+static void room(void)
+{
+    static uint64_t places[2], cells[CCFB_CELLS(2)];
+    for (uint16_t number = 0; number < 16; number++) {
+        ccfb_arrive(places, 2, cells, CCFB_CELLS(2), 7, number, 0, true, 1);
+        ccfb_arrive(places, 2, cells, CCFB_CELLS(2), 9, number, 0, true, 1);
+    }
+    for (size_t limit = CCFB_LEAST_LIMIT; limit < 100; limit++)
+        for (uint16_t first = 0; first <= 16; first++)
+            for (uint16_t second = 0; second <= 16; second++)
+                room_for(places, cells, first, second, limit);
+}
+
+int main(void)
+{
+    null_store();
+    null_output();
+    null_packet();
+    texts();
+    room();
+    return wrong;
+}
