@@ -63,37 +63,29 @@ static void record(const struct arrival *a)
                ccfb_refusal_text(refused));
 }
 
-/* What was last reported of the stream in a place. */
-struct told {
-    bool any;
-    uint32_t ssrc;
-    uint16_t last;
-};
-
-static struct told told[PLACES];
+/* The last request that was sent for the stream in a place; its count is 0 if there was none. */
+static struct ccfb_request told[PLACES];
 
 /*
  * The next request for the stream of place k: the numbers since the last report. The first report
- * starts at the first arrival: numbers from before it were not lost. false: there is nothing new.
+ * starts at the oldest number that arrived: those from before it were not lost. false: there is
+ * nothing new.
  */
 static bool next_request(size_t k, struct ccfb_request *request)
 {
-    struct told *t = &told[k];
-    uint32_t ssrc;
+    const struct ccfb_request *last = &told[k];
     uint16_t highest, oldest;
-    if (ccfb_place(places, PLACES, cells, CCFB_CELLS(PLACES), k, &ssrc, &highest) != 0 ||
+    if (ccfb_place(places, PLACES, cells, CCFB_CELLS(PLACES), k, &request->ssrc, &highest) != 0 ||
         ccfb_oldest(places, PLACES, cells, CCFB_CELLS(PLACES), k, &oldest) != 0)
         return false;
-    request->ssrc = ssrc;
-    request->begin = t->any && t->ssrc == ssrc ? (uint16_t)(t->last + 1) : oldest;
+    request->begin = oldest;
+    if (last->count != 0 && last->ssrc == request->ssrc)
+        request->begin = (uint16_t)(last->begin + last->count);
     request->count = (uint16_t)(highest - request->begin + 1);
     if (request->count > CCFB_CELLS_OF_A_PLACE) { /* the store knows of no more */
         request->count = CCFB_CELLS_OF_A_PLACE;
         request->begin = (uint16_t)(highest - (CCFB_CELLS_OF_A_PLACE - 1));
     }
-    t->any = true;
-    t->ssrc = ssrc;
-    t->last = highest;
     return request->count != 0;
 }
 
@@ -140,7 +132,7 @@ static void camera_reads(uint32_t camera, const uint8_t *packet, size_t len)
         refused = ccfb_next_block(packet, len, &at, &ssrc, &begin, &count, &metrics_at);
         if (refused != 0 || ssrc != camera)
             continue;
-        printf("camera %08x: %u numbers, starting at %u\n", (unsigned)camera, count, begin);
+        printf("camera %08x: count %u, starting at %u\n", (unsigned)camera, count, begin);
         for (size_t j = 0; j < count; j++) {
             uint8_t kind, mark = 0;
             uint16_t offset = 0;
@@ -158,12 +150,12 @@ static void report(uint32_t rts)
     static const uint32_t cameras[] = {CAMERA_1, CAMERA_2, CAMERA_3};
     static uint8_t out[ROOM];
     struct ccfb_request requests[PLACES];
-    size_t n = 0, packets, octets;
+    size_t place[PLACES], n = 0, packets, octets;
     uint8_t refused;
 
     for (size_t k = 0; k < PLACES; k++)
         if (next_request(k, &requests[n]))
-            n++;
+            place[n++] = k;
     refused = ccfb_write(places, PLACES, cells, CCFB_CELLS(PLACES), RECEIVER, rts, LIMIT, requests,
                          n, out, ROOM, &packets, &octets);
     if (refused != 0) {
@@ -176,6 +168,8 @@ static void report(uint32_t rts)
     for (size_t c = 0; c < sizeof cameras / sizeof cameras[0]; c++)
         for (size_t at = 0; at < octets; at += octets_of(out + at))
             camera_reads(cameras[c], out + at, octets_of(out + at));
+    for (size_t i = 0; i < n; i++)
+        told[place[i]] = requests[i];
 }
 
 int main(void)

@@ -4,7 +4,9 @@
  * every 20 packets; the camera reads the reports. docs/WIRE.md goes through the receiver's part.
  * Linux, IPv4, reduced-size RTCP.
  */
+#ifndef _GNU_SOURCE
 #define _GNU_SOURCE
+#endif
 #include "ccfb.h"
 
 #include <arpa/inet.h>
@@ -19,11 +21,12 @@
 enum {
     PLACES = 4,
     LIMIT = 1200, /* octets of a feedback packet, within every usual path's MTU */
-    AGAIN = 8,    /* numbers that each report repeats of the last one */
+    AGAIN = 8,    /* numbers of the last report that each report repeats */
     SILENCE = 10, /* seconds after which a stream is forgotten */
-    NUMBERS = CCFB_CELLS_OF_A_PLACE * PLACES, /* a report has no more */
+    ROOM = CCFB_ROOM(CCFB_CELLS(PLACES), PLACES), /* enough for any report */
     RTP_HEADER = 12,
-    DATAGRAM = 1500
+    DATAGRAM = 1500,
+    CONTROL = 256 /* octets for what the kernel says of a datagram */
 };
 
 #define RECEIVER 0x000000f1u
@@ -41,10 +44,10 @@ static uint32_t ntp_time(const struct timespec *instant)
     return seconds << 16 | fraction;
 }
 
-static struct timespec now(void)
+static struct timespec time_of(clockid_t clock)
 {
     struct timespec instant;
-    clock_gettime(CLOCK_REALTIME, &instant);
+    clock_gettime(clock, &instant);
     return instant;
 }
 
@@ -53,39 +56,47 @@ static struct timespec now(void)
 static uint64_t places[PLACES]; /* zeroed: a fresh store */
 static uint64_t cells[CCFB_CELLS(PLACES)];
 
-static void record(const uint8_t *rtp, size_t len, uint8_t ecn, const struct timespec *arrival)
+/* If RTP and RTCP share a port, the second octet tells them apart (RFC 5761). */
+static bool is_rtp(const uint8_t *datagram, size_t len)
 {
-    uint16_t number;
-    uint32_t ssrc;
-    uint8_t refused;
-    if (len < RTP_HEADER || rtp[0] >> 6 != 2)
-        return;
-    number = (uint16_t)(rtp[2] << 8 | rtp[3]);
-    ssrc = (uint32_t)rtp[8] << 24 | (uint32_t)rtp[9] << 16 | (uint32_t)rtp[10] << 8 | rtp[11];
-    refused = ccfb_arrive(places, PLACES, cells, CCFB_CELLS(PLACES), ssrc, number, ecn,
-                          arrival != NULL, arrival != NULL ? ntp_time(arrival) : 0);
+    return len >= RTP_HEADER && datagram[0] >> 6 == 2 && (datagram[1] < 192 || datagram[1] > 223);
+}
+
+static void record(const uint8_t *rtp, uint8_t ecn, const struct timespec *arrival)
+{
+    uint16_t number = (uint16_t)(rtp[2] << 8 | rtp[3]);
+    uint32_t ssrc =
+        (uint32_t)rtp[8] << 24 | (uint32_t)rtp[9] << 16 | (uint32_t)rtp[10] << 8 | rtp[11];
+    uint8_t refused = ccfb_arrive(places, PLACES, cells, CCFB_CELLS(PLACES), ssrc, number, ecn,
+                                  arrival != NULL, arrival != NULL ? ntp_time(arrival) : 0);
     if (refused != 0)
         fprintf(stderr, "stream %08x, number %u: %s\n", (unsigned)ssrc, number,
                 ccfb_refusal_text(refused));
 }
 
-/* Takes every datagram that has come, with its ECN mark and its time of arrival. */
+/* The next datagram that has come; what the kernel says of it goes into the message. */
+static ssize_t receive(int s, uint8_t *datagram, struct msghdr *message, uint8_t *control)
+{
+    static struct iovec part;
+    part.iov_base = datagram;
+    part.iov_len = DATAGRAM;
+    memset(message, 0, sizeof *message);
+    message->msg_iov = &part;
+    message->msg_iovlen = 1;
+    message->msg_control = control;
+    message->msg_controllen = CONTROL;
+    return recvmsg(s, message, MSG_DONTWAIT);
+}
+
+/* Records every packet that has come, with its ECN mark and its time of arrival. */
 static void receive_all(int s)
 {
-    uint8_t datagram[DATAGRAM], control[256];
-    struct iovec part = {datagram, sizeof datagram};
-    for (;;) {
-        struct msghdr message = {0};
+    uint8_t datagram[DATAGRAM], control[CONTROL];
+    struct msghdr message;
+    ssize_t len;
+    while ((len = receive(s, datagram, &message, control)) >= 0) {
         struct timespec instant, *arrival = NULL;
         uint8_t ecn = CCFB_NOT_ECT;
-        ssize_t len;
-        message.msg_iov = &part;
-        message.msg_iovlen = 1;
-        message.msg_control = control;
-        message.msg_controllen = sizeof control;
-        len = recvmsg(s, &message, MSG_DONTWAIT);
-        if (len < 0)
-            return;
         for (struct cmsghdr *c = CMSG_FIRSTHDR(&message); c != NULL; c = CMSG_NXTHDR(&message, c)) {
             if (c->cmsg_level == IPPROTO_IP && c->cmsg_type == IP_TOS) {
                 ecn = *CMSG_DATA(c) & 3;
@@ -94,102 +105,104 @@ static void receive_all(int s)
                 arrival = &instant;
             }
         }
-        record(datagram, (size_t)len, ecn, arrival);
+        if (is_rtp(datagram, (size_t)len))
+            record(datagram, ecn, arrival);
     }
 }
 
 /* ---- The receiver: what it reports */
 
-/* What was last reported of the stream in a place. */
-struct told {
-    bool any;
-    uint32_t ssrc;
-    uint16_t last;
-    time_t heard; /* when the stream last had something new */
-};
+/* What is known of the reports on the stream in a place. */
+static struct told {
+    struct ccfb_request last; /* the last one that was sent; its count is 0 if there was none */
+    time_t heard;             /* when the stream last had something new */
+} told[PLACES];
 
-static struct told told[PLACES];
-
-/* How many numbers to report, up to the highest: those since the last report, and AGAIN more. */
-static uint16_t numbers_to_report(const struct told *t, uint16_t highest, uint16_t oldest)
+/* How many numbers to report, up to the highest: those since the last report, and AGAIN of it. */
+static uint16_t numbers_to_report(const struct ccfb_request *last, uint16_t highest,
+                                  uint16_t oldest)
 {
-    unsigned arrived = (uint16_t)(highest - oldest) + 1u; /* numbers since the first arrival */
-    unsigned fresh = (uint16_t)(highest - t->last);       /* numbers since the last report */
-    unsigned count = fresh + AGAIN;
-    if (!t->any)
-        return (uint16_t)arrived;
+    uint16_t fresh = (uint16_t)(highest - (last->begin + last->count - 1));
+    uint16_t again = last->count < AGAIN ? last->count : (uint16_t)AGAIN;
+    if (last->count == 0)
+        return (uint16_t)(highest - oldest + 1); /* the first report */
     if (fresh == 0)
         return 0;
-    if (fresh >= CCFB_CELLS_OF_A_PLACE) /* the store knows of no more */
-        return CCFB_CELLS_OF_A_PLACE;
-    return (uint16_t)(count < arrived ? count : arrived);
+    if (fresh + again > CCFB_CELLS_OF_A_PLACE)
+        return CCFB_CELLS_OF_A_PLACE; /* the store knows of no more */
+    return (uint16_t)(fresh + again);
+}
+
+/* Frees the place of a stream, and forgets what was told of it. */
+static void forget(size_t k, uint32_t ssrc)
+{
+    ccfb_forget(places, PLACES, cells, CCFB_CELLS(PLACES), ssrc);
+    told[k].last.count = 0;
 }
 
 /*
  * The next request for the stream of place k, if it has anything new. A stream that was silent for
  * long is forgotten.
  */
-static bool next_request(size_t k, time_t seconds, struct ccfb_request *request)
+static bool next_request(size_t k, time_t now, struct ccfb_request *request)
 {
     struct told *t = &told[k];
-    uint32_t ssrc;
     uint16_t highest, oldest;
-    if (ccfb_place(places, PLACES, cells, CCFB_CELLS(PLACES), k, &ssrc, &highest) != 0 ||
-        ccfb_oldest(places, PLACES, cells, CCFB_CELLS(PLACES), k, &oldest) != 0) {
-        t->any = false; /* the place is free */
-        return false;
-    }
-    if (t->ssrc != ssrc)
-        t->any = false; /* another stream has it now */
-    request->ssrc = ssrc;
-    request->count = numbers_to_report(t, highest, oldest);
+    if (ccfb_place(places, PLACES, cells, CCFB_CELLS(PLACES), k, &request->ssrc, &highest) != 0 ||
+        ccfb_oldest(places, PLACES, cells, CCFB_CELLS(PLACES), k, &oldest) != 0)
+        return false; /* the place is free */
+    if (t->last.ssrc != request->ssrc)
+        t->last.count = 0; /* it was another stream's */
+    request->count = numbers_to_report(&t->last, highest, oldest);
     request->begin = (uint16_t)(highest - request->count + 1);
-    if (request->count != 0) {
-        *t = (struct told){true, ssrc, highest, seconds};
-        return true;
-    }
-    if (seconds - t->heard > SILENCE) {
-        ccfb_forget(places, PLACES, cells, CCFB_CELLS(PLACES), ssrc);
-        t->any = false;
-    }
-    return false;
+    if (request->count != 0)
+        t->heard = now;
+    else if (now - t->heard > SILENCE)
+        forget(k, request->ssrc);
+    return request->count != 0;
 }
 
 /* Sends each of the packets in a datagram of its own: a packet is as long as its header says. */
-static void send_packets(int s, const uint8_t *packets, size_t octets)
+static bool send_packets(int s, const uint8_t *packets, size_t octets)
 {
     while (octets != 0) {
         size_t len = 4 * ((size_t)(packets[2] << 8 | packets[3]) + 1);
         if (send(s, packets, len, 0) < 0)
-            perror("send");
+            return false;
         packets += len;
         octets -= len;
     }
+    return true;
 }
 
+/* Reports on all streams that have something new. What was not sent is reported the next time. */
 static void report(int s)
 {
-    static uint8_t out[CCFB_ROOM(NUMBERS, PLACES)];
+    static uint8_t out[ROOM];
     struct ccfb_request requests[PLACES];
-    struct timespec instant = now(); /* RTS: after all arrivals were taken */
-    size_t n = 0, packets, octets;
+    struct timespec rts = time_of(CLOCK_REALTIME); /* after all arrivals were recorded */
+    time_t now = time_of(CLOCK_MONOTONIC).tv_sec;  /* silence is no matter of the time of day */
+    size_t place[PLACES], n = 0, packets, octets;
     uint8_t refused;
     for (size_t k = 0; k < PLACES; k++)
-        if (next_request(k, instant.tv_sec, &requests[n]))
-            n++;
-    refused = ccfb_write(places, PLACES, cells, CCFB_CELLS(PLACES), RECEIVER, ntp_time(&instant),
-                         LIMIT, requests, n, out, sizeof out, &packets, &octets);
+        if (next_request(k, now, &requests[n]))
+            place[n++] = k;
+    refused = ccfb_write(places, PLACES, cells, CCFB_CELLS(PLACES), RECEIVER, ntp_time(&rts), LIMIT,
+                         requests, n, out, ROOM, &packets, &octets);
     if (refused != 0)
         fprintf(stderr, "no feedback: %s\n", ccfb_refusal_text(refused));
+    else if (!send_packets(s, out, octets))
+        perror("send");
     else
-        send_packets(s, out, octets);
+        for (size_t i = 0; i < n; i++)
+            told[place[i]].last = requests[i];
 }
 
 /* ---- The camera */
 
 static void send_rtp(int s, uint16_t number, int ecn)
 {
-    uint8_t rtp[RTP_HEADER + 1000] = {0x80, 96};
+    uint8_t rtp[RTP_HEADER + 1000] = {0x80, 96}; /* version 2, payload type 96 */
     rtp[2] = (uint8_t)(number >> 8);
     rtp[3] = (uint8_t)number;
     rtp[8] = (uint8_t)(CAMERA >> 24);
@@ -207,15 +220,14 @@ static void print_block(const uint8_t *part, uint16_t begin, uint16_t count)
     unsigned missing = 0, congested = 0;
     for (size_t j = 0; j < count; j++) {
         uint8_t kind, mark = CCFB_NOT_ECT;
-        uint16_t offset = 0;
+        uint16_t offset;
         ccfb_metric_at(part, 2 * (size_t)count, j, &kind, &mark, &offset);
         missing += kind == CCFB_NOT_RECEIVED;
         congested += mark == CCFB_CE;
         if (kind == CCFB_OVER_RANGE || kind == CCFB_NO_TIME)
             printf("  %u: received, but without an offset\n", (uint16_t)(begin + j));
     }
-    printf("%u to %u: %u numbers, %u missing, %u ECN-CE\n", begin, (uint16_t)(begin + count - 1),
-           count, missing, congested);
+    printf("starting at %u: %u numbers, %u missing, %u ECN-CE\n", begin, count, missing, congested);
 }
 
 /* Reads every report that has come. */
@@ -264,8 +276,19 @@ static void connect_to(int s, const struct sockaddr_in *address)
     }
 }
 
+/* The camera's packet i, on the way to the receiver: some are lost, some marked, two swapped. */
+static void send_packet(int camera, unsigned i)
+{
+    const unsigned first = 65500, late = 19;
+    unsigned sent = i == late ? late + 1 : i == late + 1 ? late : i;
+    bool lost = sent % 30 == 25, marked = sent % 40 == 39;
+    if (!lost)
+        send_rtp(camera, (uint16_t)(first + sent), marked ? CCFB_CE : CCFB_ECT_1);
+}
+
 int main(void)
 {
+    enum { PACKETS = 100, PACKETS_OF_A_REPORT = 20 };
     struct sockaddr_in camera_address, receiver_address;
     struct timespec frame = {0, 1000000};
     int camera = bound_socket(&camera_address), receiver = bound_socket(&receiver_address), on = 1;
@@ -274,13 +297,11 @@ int main(void)
     setsockopt(receiver, IPPROTO_IP, IP_RECVTOS, &on, sizeof on);
     setsockopt(receiver, SOL_SOCKET, SO_TIMESTAMPNS, &on, sizeof on);
 
-    for (unsigned i = 0; i < 100; i++) {
-        unsigned sent = i == 19 ? 20 : i == 20 ? 19 : i; /* 19 comes late, after the first report */
-        if (sent % 30 != 25)                             /* these are lost */
-            send_rtp(camera, (uint16_t)(65500 + sent), sent % 40 == 39 ? CCFB_CE : CCFB_ECT_1);
+    for (unsigned i = 0; i < PACKETS; i++) {
+        send_packet(camera, i);
         nanosleep(&frame, NULL);
         receive_all(receiver);
-        if (i % 20 == 19) {
+        if ((i + 1) % PACKETS_OF_A_REPORT == 0) {
             report(receiver);
             read_reports(camera);
         }

@@ -33,7 +33,8 @@ fn link_named(folder: &Path) {
     }
     if !folder.join(LIBRARY).is_file() {
         refuse(&format!(
-            "CCFB_LIB_DIR is {folder:?}, but it has no {LIBRARY}: scripts/library builds one"
+            "CCFB_LIB_DIR is {folder:?}, but it has no {LIBRARY}: scripts/library builds one, \
+             and a release has one"
         ));
     }
     link(folder);

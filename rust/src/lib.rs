@@ -41,17 +41,18 @@
 //!
 //! # Which numbers to report
 //!
-//! **Never report numbers from before the first arrival.** They would be reported as missing, and
-//! a sender takes that for loss: the newest 64 numbers of a stream of which one packet arrived
-//! are 98 % loss. Report what is new since the last report, and a few numbers again for packets
-//! that arrive late. A [`Reporter`] does that, and [`Stream`] has the ranges to do it by hand.
+//! **Never report numbers from before the oldest that arrived.** They would be reported as
+//! missing, and a sender takes that for loss: the newest 64 numbers of a stream of which one
+//! packet arrived are 98 % loss. Report what is new since the last report, and a few numbers
+//! again for packets that arrive late. A [`Reporter`] does that, and [`Stream`] has the ranges to
+//! do it by hand.
 //!
 //! # What may be trusted
 //!
 //! What is recorded, written and read is decided by the library, whose behaviour is proved. Which
 //! numbers to report and the conversion of times are decided by this crate, and tested. Refusals
-//! of what the types here rule out (a mark above 3, an owned store of another shape) cannot happen,
-//! and no answer of the library makes the crate panic.
+//! of what the types here rule out (a mark above 3, an owned store of another shape) cannot
+//! happen, and no answer of the library makes the crate panic.
 //!
 //! # Features
 //!

@@ -34,7 +34,7 @@ pub struct Packet<'a> {
 }
 
 impl<'a> Packet<'a> {
-    /// Checks the whole packet. Accepts any octets.
+    /// Checks the whole packet, which may be any octets.
     ///
     /// # Errors
     ///

@@ -20,7 +20,6 @@ macro_rules! refusals {
         pub enum Refusal {
             $(#[doc = concat!($number, ": ", $meaning, ".")] $name,)*
             /// A number that this version of the crate does not know, from a later library.
-            #[non_exhaustive]
             Unknown(u8),
         }
 

@@ -6,10 +6,13 @@ use crate::{Request, Requests, Stream};
 /// report. It needs no heap.
 ///
 /// The first report on a stream starts at the oldest number that arrived; each later one has the
-/// numbers since the last, with the chosen overlap. **No number from before the first arrival is
-/// ever reported.** A stream of which nothing is new gets its overlap, or an empty block without
-/// one, so that every report names each stream that the store holds: the sender then sees that
-/// nothing arrived.
+/// numbers since the last, and as many of that one again as the overlap says. **No report starts
+/// before the first one did, as long as the reporter is told what the store
+/// [forgets](Reporter::forget).** A stream of which nothing is new gets its overlap, or an empty
+/// block without one, so that every report names each stream that the store holds: the sender then
+/// sees that nothing arrived.
+///
+/// Report at least once in 2,048 packets of a stream: the store knows of no more numbers.
 ///
 /// ```
 /// use ccfb::{Mark, Refusal, Report, Reporter, Request, Store, Time};
@@ -45,7 +48,8 @@ pub struct Reporter {
 
 impl Reporter {
     /// Nothing is reported yet. Every report after the first on a stream will have up to `overlap`
-    /// earlier numbers once more: see [`Stream::since_with_overlap`].
+    /// numbers of the one before once more: as many as packets are late by, see
+    /// [`Stream::since_with_overlap`].
     pub const fn new(overlap: u16) -> Reporter {
         Reporter { overlap, reported: Requests::NONE }
     }
@@ -60,14 +64,12 @@ impl Reporter {
             if requests.of(stream.ssrc).is_some() {
                 continue; // in memory that no store has filled, two places may have one stream
             }
-            let reported = self.reported.of(stream.ssrc);
-            requests.put(match reported {
-                Some(reported) => stream.since_with_overlap(reported.last(), self.overlap),
-                None => stream.all(),
-            });
-            if let Some(reported) = reported {
-                held.put(reported);
-            }
+            let Some(last) = self.reported.of(stream.ssrc) else {
+                requests.put(stream.all());
+                continue;
+            };
+            requests.put(stream.after(last, self.overlap));
+            held.put(last);
         }
         self.reported = held;
         requests
@@ -82,9 +84,9 @@ impl Reporter {
     }
 
     /// Forgets a stream, so that the next report on it is a first one. Call it whenever the store
-    /// [forgets](crate::StoreOver::forget) the stream: if it comes back before the next report, and
-    /// 2,048 or more numbers after the last one reported, nothing else tells it from one that lost
-    /// so many.
+    /// [forgets](crate::StoreOver::forget) the stream: if it comes back before the next report,
+    /// and 2,048 or more numbers after the last one reported, nothing else tells it from one that
+    /// lost so many.
     ///
     /// ```
     /// use ccfb::{Reporter, Stream};

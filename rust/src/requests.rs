@@ -27,7 +27,8 @@ impl Request {
     }
 }
 
-/// The requests of one report, at most 16 and for no stream twice: a slice of them, without a heap.
+/// The requests of one report, at most 16 and for no stream twice: a slice of them, without a
+/// heap.
 ///
 /// ```
 /// use ccfb::{Reporter, Request, Stream};

@@ -129,8 +129,8 @@ impl<'a> StoreOver<Borrowed<'a>> {
 }
 
 impl<M: Memory> StoreOver<M> {
-    /// Records an arrival. A copy keeps the first one's time and mark, except that the mark becomes
-    /// [`Mark::Ce`] if any copy carried it.
+    /// Records an arrival. A copy keeps the first one's time and mark, except that the mark
+    /// becomes [`Mark::Ce`] if any copy carried it.
     ///
     /// # Errors
     ///

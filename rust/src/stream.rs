@@ -10,9 +10,9 @@ const AHEAD: u16 = 0x8000;
 
 /// A stream that a place holds.
 ///
-/// It makes the requests for a report. **Never report numbers from before the first arrival**:
-/// nobody knows whether they were sent, and the sender would take them for lost. The requests
-/// made here keep to that. A [`Reporter`](crate::Reporter) makes them for all streams.
+/// It makes the requests for a report. **Never report numbers from before the oldest that
+/// arrived**: nobody knows whether they were sent, and the sender would take them for lost. The
+/// requests made here keep to that. A [`Reporter`](crate::Reporter) makes them for all streams.
 ///
 /// ```
 /// use ccfb::{Request, Stream};
@@ -48,7 +48,8 @@ impl Stream {
         self.up_to_highest(count.min(self.known()))
     }
 
-    /// The request for all numbers from the oldest that arrived to H: the first report on a stream.
+    /// The request for all numbers from the oldest that arrived to H: the first report on a
+    /// stream.
     pub fn all(self) -> Request {
         self.up_to_highest(self.known())
     }
@@ -58,7 +59,7 @@ impl Stream {
     ///
     /// A `last` that is not of this history asks for [all](Stream::all): if it is ahead of H, or
     /// in the window while nothing up to it arrived. A stream that was forgotten and came back is
-    /// like that.
+    /// like that. So is one that has moved on by 32,768 numbers or more: report more often.
     ///
     /// ```
     /// use ccfb::{Request, Stream};
@@ -92,6 +93,16 @@ impl Stream {
         let count = match self.fresh(last) {
             Some(fresh) => known.min(fresh.saturating_add(overlap)).max(fresh),
             None => known,
+        };
+        self.up_to_highest(count)
+    }
+
+    /// The request for the numbers after those of the `last` request, and up to `overlap` of them
+    /// once more: so it does not start before that one, whatever has arrived.
+    pub(crate) fn after(self, last: Request, overlap: u16) -> Request {
+        let count = match self.fresh(last.last()) {
+            Some(fresh) => fresh.saturating_add(overlap.min(last.count)).min(WINDOW),
+            None => self.known(),
         };
         self.up_to_highest(count)
     }

@@ -68,7 +68,7 @@ impl From<SystemTime> for Time {
 /// count, and so is a [`Time::At`].
 ///
 /// RTS is of the same clock as the NTP timestamps in the sender's reports. If that clock is set
-/// back, what arrived before is for a while reported without a time.
+/// between an arrival and its report, the offset changes by as much: let the clock be slewed.
 ///
 /// ```
 /// use ccfb::{ntp_time, Time};

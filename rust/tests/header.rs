@@ -45,18 +45,16 @@ fn refusals() {
     assert_eq!(refusals.lines().map(words).collect::<Vec<_>>(), defined);
 }
 
-/// The texts of `ccfb_refusal_text` stand in the order of their numbers.
+/// Each refusal has its text in `ccfb_refusal_text`.
 #[test]
 fn refusal_texts() {
-    let (_, function) = HEADER.split_once("*ccfb_refusal_text(").expect("ccfb_refusal_text");
-    let (function, _) = function.split_once("\n}\n").expect("its end");
-    // C joins the parts of a text that is cut at a line's end.
-    let texts: String = function.split_whitespace().collect::<Vec<_>>().join(" ");
-    let texts = texts.replace("\" \"", "");
-    let at = |text: &str| texts.find(&format!("{text:?}")).unwrap_or_else(|| panic!("no {text}"));
-    let starts: Vec<usize> = Refusal::ALL.iter().map(|known| at(known.meaning())).collect();
-    assert!(starts.windows(2).all(|pair| pair[0] < pair[1]));
-    assert!(at("accepted") != at("unknown refusal"));
+    for refusal in Refusal::ALL {
+        let (number, text) = (refusal.number(), refusal.meaning());
+        let of_the_program = OF_THE_PROGRAM.contains(&number);
+        let label = if of_the_program { number.to_string() } else { macro_name(*refusal) };
+        let line = format!("case {label}: return {text:?};");
+        assert!(HEADER.contains(&line), "no {line}");
+    }
 }
 
 #[test]

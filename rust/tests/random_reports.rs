@@ -1,5 +1,5 @@
-//! A million arrivals and reports: no number from before the first arrival is reported, none is
-//! left out, and no request is refused.
+//! A million arrivals and reports: the first report on a stream starts at the oldest number that
+//! arrived, no later one starts before it, no number is left out, and no request is refused.
 
 use ccfb::{
     Mark, Packet, Refusal, Report, Reporter, Requests, StoreIn, Time, CELLS_OF_A_PLACE, LIMITS,
@@ -31,6 +31,8 @@ impl Random {
 struct History {
     highest: u64,
     arrived: BTreeSet<u64>,
+    /// Where the first report began, and where the last one ended.
+    reported_from: u64,
     reported_to: Option<u64>,
     /// Arrived since the last report, and no further behind it than the overlap.
     to_be_told: Vec<u64>,
@@ -39,13 +41,15 @@ struct History {
 impl History {
     fn starting_at(number: u64) -> History {
         let arrived = BTreeSet::from([number]);
-        History { highest: number, arrived, reported_to: None, to_be_told: vec![number] }
+        let to_be_told = vec![number];
+        History { highest: number, arrived, reported_from: 0, reported_to: None, to_be_told }
     }
 
     fn arrive(&mut self, number: u64, overlap: u64) {
         self.highest = self.highest.max(number);
         self.arrived.insert(number);
-        if self.reported_to.map_or(true, |last| number + overlap > last) {
+        let told_again = |last| self.reported_from <= number && last < number + overlap;
+        if self.reported_to.map_or(true, told_again) {
             self.to_be_told.push(number);
         }
     }
@@ -68,14 +72,23 @@ impl History {
         }
     }
 
+    /// The report was sent.
+    fn told(&mut self) {
+        if self.reported_to.is_none() {
+            self.reported_from = self.next_begin();
+        }
+        self.reported_to = Some(self.highest);
+        self.to_be_told.clear();
+    }
+
     /// Checks the numbers of a report, each with whether it was received.
     fn check(&self, told: &[(u64, bool)]) {
         let begin = told.first().map_or(self.highest + 1, |first| first.0);
-        let first_arrival = *self.arrived.first().expect("H arrived");
-        assert!(begin >= first_arrival, "{begin} is from before the first arrival");
+        let oldest = *self.arrived.first().expect("H arrived");
+        assert!(begin >= oldest, "{begin} is from before the oldest number that arrived");
         match self.reported_to {
             None => assert_eq!(begin, self.next_begin()),
-            Some(_) => assert!(begin <= self.next_begin()),
+            Some(_) => assert!(self.reported_from <= begin && begin <= self.next_begin()),
         }
         assert!(told.last().map_or(true, |last| last.0 == self.highest));
         assert!(told.windows(2).all(|pair| pair[0].0 + 1 == pair[1].0));
@@ -142,7 +155,11 @@ impl Trial<'_> {
         let ssrc = self.random.below(self.next.len() as u64) as u32;
         let next = &mut self.next[ssrc as usize];
         *next += if self.random.one_in(3_000) { self.random.below(4_000) } else { 1 };
-        let behind = if self.random.one_in(8) { self.random.below(60) } else { 0 };
+        let behind = match self.random.below(80) {
+            0 => self.random.below(2_000),
+            1..=10 => self.random.below(60),
+            _ => 0,
+        };
         let number = *next - behind;
         if self.random.one_in(10) {
             return Ok(()); // lost
@@ -191,8 +208,7 @@ impl Trial<'_> {
         }
         self.reporter.reported(&requests);
         for history in self.histories.values_mut() {
-            history.reported_to = Some(history.highest);
-            history.to_be_told.clear();
+            history.told();
         }
         Ok(())
     }

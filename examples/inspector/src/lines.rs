@@ -39,7 +39,7 @@ fn packet<'a>(line: &[u8], octets: &'a mut Vec<u8>) -> Result<Packet<'a>, String
     if let Some(refusal) = refused_file(line) {
         return Err(format!("ccfbline {refusal}"));
     }
-    *octets = hex::octets(line).map_err(|fault| format!("no hex, {fault}"))?;
+    *octets = hex::octets(line).map_err(|fault| format!("not hex: {fault}"))?;
     Packet::read(octets).map_err(|refusal| format!("{} octets, {refusal}", octets.len()))
 }
 
@@ -89,6 +89,6 @@ mod tests {
         let lines: Vec<&str> = text.lines().collect();
         assert_eq!(lines[0], "line 1: 2 octets, refused 21: packet shorter than 12 octets");
         assert!(lines[1].starts_with("line 2: ccfbline refused 13: "));
-        assert_eq!(lines[2], "line 3: no hex, 'r' in column 1");
+        assert_eq!(lines[2], "line 3: not hex: 'r' in column 1");
     }
 }

@@ -1,6 +1,6 @@
-//! Reads lines of hex from standard input, a CCFB packet each, as `ccfbline` prints them, and shows
-//! each packet in readable form, or why it is refused. The time in a cell is how long before RTS
-//! that number arrived. With `--svg FILE` it also draws the packets.
+//! Reads lines of hex from standard input, a CCFB packet each, as `ccfbline` prints them, and
+//! shows each packet in readable form, or why it is refused. The time in a cell is how long
+//! before RTS that number arrived. With `--svg FILE` it also draws the packets.
 
 mod element;
 mod hex;
