@@ -151,9 +151,9 @@ uint8_t ccfb_place(const uint64_t *places, size_t places_len, const uint64_t *ce
                    size_t cells_len, size_t k, uint32_t *ssrc, uint16_t *highest);
 
 /*
- * The oldest sequence number that arrived, among the 2,048 that are known of the stream of place k,
- * from 0. A first report on a stream starts here: what comes before was never received, and may
- * never have been sent to this receiver.
+ * The oldest sequence number that arrived, among the 2,048 that the store knows of the stream of
+ * place k, from 0. A first report on a stream starts here: of the numbers before it none arrived,
+ * and they may never have been sent.
  *
  * Returns 0, or a refusal as ccfb_place does.
  */
@@ -164,8 +164,8 @@ uint8_t ccfb_oldest(const uint64_t *places, size_t places_len, const uint64_t *c
 
 /*
  * A request: count sequence numbers of a stream, starting at begin. Ask for those since the last
- * report, and the first time for those since ccfb_oldest: a number from before the first arrival
- * would be reported as missing, and its sender would take that for loss.
+ * report, and the first time for those since ccfb_oldest. Numbers from before the first arrival
+ * would be reported as missing, and their sender would take that for loss.
  */
 struct ccfb_request {
     uint32_t ssrc;

@@ -73,7 +73,8 @@ impl Stream {
         }
     }
 
-    /// The lowest full number of the window that an accepted arrival had; that of H if none had one.
+    /// The lowest full number of the window that an accepted arrival had; that of H if none had
+    /// one.
     pub fn oldest(&self) -> i64 {
         let full_numbers = self.accepted.iter().map(|accepted| accepted.full);
         let of_window = full_numbers.filter(|full| WINDOW.contains(&(self.highest - full)));
