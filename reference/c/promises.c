@@ -7,6 +7,9 @@
 #include <stdio.h>
 #include <string.h>
 
+/* The streams of the tests, and how many numbers of each arrive, from 0 on. */
+enum { FIRST = 7, SECOND = 9, NUMBERS = 16, HIGHEST = NUMBERS - 1 };
+
 static int wrong;
 
 static void check(bool holds, const char *what)
@@ -22,8 +25,8 @@ static void null_store(void)
     uint32_t ssrc;
     uint16_t number;
     size_t packets, octets;
-    check(ccfb_arrive(NULL, 0, NULL, 0, 7, 1, 0, true, 1) == CCFB_BAD_STORE, "arrive");
-    check(ccfb_forget(NULL, 0, NULL, 0, 7) == CCFB_BAD_STORE, "forget");
+    check(ccfb_arrive(NULL, 0, NULL, 0, FIRST, 1, 0, true, 1) == CCFB_BAD_STORE, "arrive");
+    check(ccfb_forget(NULL, 0, NULL, 0, FIRST) == CCFB_BAD_STORE, "forget");
     check(ccfb_place(NULL, 0, NULL, 0, 0, &ssrc, &number) == CCFB_BAD_STORE, "place");
     check(ccfb_oldest(NULL, 0, NULL, 0, 0, &number) == CCFB_BAD_STORE, "oldest");
     check(ccfb_write(NULL, 0, NULL, 0, 1, 2, 24, NULL, 0, NULL, 0, &packets, &octets) ==
@@ -34,9 +37,9 @@ static void null_store(void)
 static void null_output(void)
 {
     static uint64_t places[1], cells[CCFB_CELLS(1)];
-    struct ccfb_request request = {7, 1, 1};
+    struct ccfb_request request = {FIRST, 1, 1};
     size_t packets = 9, octets = 9;
-    check(ccfb_arrive(places, 1, cells, CCFB_CELLS(1), 7, 1, 0, true, 1) == 0, "an arrival");
+    check(ccfb_arrive(places, 1, cells, CCFB_CELLS(1), FIRST, 1, 0, true, 1) == 0, "an arrival");
     check(ccfb_write(places, 1, cells, CCFB_CELLS(1), 1, 2, 24, &request, 1, NULL, 0, &packets,
                      &octets) == CCFB_OUTPUT_TOO_SHORT,
           "write to no output");
@@ -82,19 +85,25 @@ static void texts(void)
     check(CCFB_VERSION_MAJOR == 0 && strlen(CCFB_VERSION) >= 5, "version");
 }
 
+/* A request for the newest numbers of a stream. */
+static struct ccfb_request newest(uint32_t ssrc, uint16_t count)
+{
+    struct ccfb_request request;
+    request.ssrc = ssrc;
+    request.begin = (uint16_t)(count == 0 ? HIGHEST : NUMBERS - count);
+    request.count = count;
+    return request;
+}
+
 /* Two streams with those counts, at that limit: the room is enough. */
 static void room_for(const uint64_t *places, const uint64_t *cells, uint16_t first,
                      uint16_t second, size_t limit)
 {
-    static uint8_t out[CCFB_ROOM(32, 2)];
+    static uint8_t out[CCFB_ROOM(2 * NUMBERS, 2)];
     size_t packets, octets, room = CCFB_ROOM((size_t)first + second, 2);
     struct ccfb_request requests[2];
-    requests[0].ssrc = 7;
-    requests[0].begin = (uint16_t)(first == 0 ? 15 : 16 - first);
-    requests[0].count = first;
-    requests[1].ssrc = 9;
-    requests[1].begin = (uint16_t)(second == 0 ? 15 : 16 - second);
-    requests[1].count = second;
+    requests[0] = newest(FIRST, first);
+    requests[1] = newest(SECOND, second);
     check(ccfb_write(places, 2, cells, CCFB_CELLS(2), 1, 2, limit, requests, 2, out, room, &packets,
                      &octets) == 0,
           "room enough");
@@ -103,13 +112,13 @@ static void room_for(const uint64_t *places, const uint64_t *cells, uint16_t fir
 static void room(void)
 {
     static uint64_t places[2], cells[CCFB_CELLS(2)];
-    for (uint16_t number = 0; number < 16; number++) {
-        ccfb_arrive(places, 2, cells, CCFB_CELLS(2), 7, number, 0, true, 1);
-        ccfb_arrive(places, 2, cells, CCFB_CELLS(2), 9, number, 0, true, 1);
+    for (uint16_t number = 0; number < NUMBERS; number++) {
+        ccfb_arrive(places, 2, cells, CCFB_CELLS(2), FIRST, number, 0, true, 1);
+        ccfb_arrive(places, 2, cells, CCFB_CELLS(2), SECOND, number, 0, true, 1);
     }
     for (size_t limit = CCFB_LEAST_LIMIT; limit < 100; limit++)
-        for (uint16_t first = 0; first <= 16; first++)
-            for (uint16_t second = 0; second <= 16; second++)
+        for (uint16_t first = 0; first <= NUMBERS; first++)
+            for (uint16_t second = 0; second <= NUMBERS; second++)
                 room_for(places, cells, first, second, limit);
 }
 

@@ -6,7 +6,7 @@ use std::io::{self, BufRead, Write};
 
 /// Shows every line that is not empty, under its number from 1, and gives each accepted packet to
 /// `take`. The legend of the strips comes before the first packet that has one.
-pub fn show(
+pub fn inspect(
     input: impl BufRead,
     mut output: impl Write,
     mut take: impl FnMut(&Packet),
@@ -19,7 +19,7 @@ pub fn show(
             continue;
         }
         let mut octets = Vec::new();
-        match packet(line, &mut octets) {
+        match read(line, &mut octets) {
             Ok(packet) => {
                 if legend_due && has_numbers(&packet) {
                     writeln!(output, "{}", strip::LEGEND)?;
@@ -35,7 +35,7 @@ pub fn show(
 }
 
 /// The packet of a line, read from its octets. The error says in words why there is none.
-fn packet<'a>(line: &[u8], octets: &'a mut Vec<u8>) -> Result<Packet<'a>, String> {
+fn read<'a>(line: &[u8], octets: &'a mut Vec<u8>) -> Result<Packet<'a>, String> {
     if let Some(refusal) = refused_file(line) {
         return Err(format!("ccfbline {refusal}"));
     }
@@ -62,7 +62,7 @@ mod tests {
 
     fn shown(input: &str) -> (String, usize) {
         let (mut output, mut taken) = (Vec::new(), 0);
-        show(input.as_bytes(), &mut output, |_| taken += 1).expect("memory does not fail");
+        inspect(input.as_bytes(), &mut output, |_| taken += 1).expect("memory does not fail");
         (String::from_utf8(output).expect("plain text"), taken)
     }
 

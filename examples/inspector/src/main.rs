@@ -25,7 +25,9 @@ const BAD_ARGUMENTS: u8 = 2;
 fn main() -> ExitCode {
     let end = match options::asked(std::env::args_os().skip(1)) {
         Ok(Asked::Help) => io::stdout().write_all(options::HELP.as_bytes()),
-        Ok(Asked::Inspect { svg: None }) => lines::show(io::stdin().lock(), io::stdout(), |_| {}),
+        Ok(Asked::Inspect { svg: None }) => {
+            lines::inspect(io::stdin().lock(), io::stdout(), |_| {})
+        }
         Ok(Asked::Inspect { svg: Some(file) }) => show_and_draw(&file),
         Err(fault) => {
             eprintln!("inspector: {fault} (--help says how to call it)");
@@ -46,7 +48,7 @@ fn main() -> ExitCode {
 fn show_and_draw(file: &Path) -> io::Result<()> {
     let mut streams = Streams::default();
     let output = WhileRead(io::stdout());
-    lines::show(io::stdin().lock(), output, |packet| streams.take(packet))?;
+    lines::inspect(io::stdin().lock(), output, |packet| streams.take(packet))?;
     std::fs::write(file, page::draw(&streams))
         .map_err(|error| io::Error::other(format!("{}: {error}", file.display())))
 }

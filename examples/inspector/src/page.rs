@@ -11,8 +11,10 @@ const WIDTH: f64 = LEFT + panel::WIDTH + RIGHT;
 const TITLE: f64 = 33.0;
 const LEGEND: f64 = 28.0;
 const PANELS: f64 = 68.0;
-/// Where the legend begins.
-const LEGEND_LEFT: f64 = 462.0;
+/// Where the signs of the legend stand: received, CE, missing, and where a block begins.
+const SIGNS: [f64; 4] = [462.0, 546.0, 670.0, 748.0];
+/// Half the height of the line that shows where a block begins.
+const BEGIN_SIGN: f64 = 8.0;
 /// The height of a drawing without panels.
 const HEIGHT_OF_NONE: f64 = 56.0;
 
@@ -87,16 +89,16 @@ fn legend() -> String {
     let received = path("received", width, &[dot(0.0, 0.0)]);
     let ce = path("ce", 0.0, &[panel::ce_mark(0.0, 0.0, width)]);
     let missing = path("missing", panel::LOSS_HEIGHT, &[level(-half, half, 0.0)]);
-    let begin = path("begin", panel::HAIRLINE, &[upright(0.0, -8.0, 8.0)]);
+    let begin = path("begin", panel::HAIRLINE, &[upright(0.0, -BEGIN_SIGN, BEGIN_SIGN)]);
     let sign = |x: f64, sign: &str, words: &str| {
         let words = text("sign", WORDS_GAP, WORDS_DROP, words);
-        group(LEGEND_LEFT + x, LEGEND, &(sign.to_string() + &words))
+        group(x, LEGEND, &(sign.to_string() + &words))
     };
     [
-        sign(0.0, &received, "received"),
-        sign(84.0, &ce, "received with CE"),
-        sign(208.0, &missing, "missing"),
-        sign(286.0, &begin, "a report block begins"),
+        sign(SIGNS[0], &received, "received"),
+        sign(SIGNS[1], &ce, "received with CE"),
+        sign(SIGNS[2], &missing, "missing"),
+        sign(SIGNS[3], &begin, "a report block begins"),
     ]
     .concat()
 }

@@ -3,13 +3,18 @@
 use crate::strip;
 use ccfb::{Mark, Metric, Packet};
 
-/// How many numbers a row shows, a cell each.
+/// How many numbers a row shows, a cell each, and how wide what a cell says is.
 const CELLS_OF_A_ROW: usize = 5;
+const CELL_WIDTH: usize = 11;
+
+/// Of RTS, and of arrival time offsets.
+const COUNTS_OF_A_SECOND: f64 = 65_536.0;
+const OFFSETS_OF_A_MILLISECOND: f64 = 1.024;
 
 /// The sender and RTS, then each block.
 pub fn packet(packet: &Packet) -> String {
     let (octets, sender, rts) = (packet.octets().len(), packet.sender(), packet.rts());
-    let seconds = f64::from(rts) / 65_536.0;
+    let seconds = f64::from(rts) / COUNTS_OF_A_SECOND;
     let mut text = format!("{octets} octets from {sender:08x}, RTS {rts:08x} ({seconds:.3} s)");
     if packet.blocks().len() == 0 {
         text += ", no block";
@@ -76,10 +81,10 @@ fn cell(metric: Metric) -> String {
         Metric::NoTime { .. } => "no time".to_string(),
     };
     let congestion = if metric.mark() == Some(Mark::Ce) { "CE" } else { "" };
-    format!("{said:>11} {congestion:<2}")
+    format!("{said:>CELL_WIDTH$} {congestion:<2}")
 }
 
 /// An arrival time offset, which counts 1/1024 s, in ms.
 pub fn milliseconds(offset: u16) -> f64 {
-    f64::from(offset) / 1.024
+    f64::from(offset) / OFFSETS_OF_A_MILLISECOND
 }
