@@ -1,7 +1,7 @@
 -- Rules: "Order of refusals", rule "Oldest number". When the call for the oldest number of a stream
 -- gives which answer, one case for each rule, for a store of any lent content. Of several refusals
 -- that apply the first is given: 4, 5.
-use Prim.Native.Nat.{ℕ, _≤_, _<_}
+use Prim.Native.Nat.{ℕ, _+_, _≤_, _<_}
 use mathlib.Core.Path.{_≡_}
 use mathlib.Core.List.{List}
 use lib.ListN.{length}
@@ -12,6 +12,7 @@ use Rattle.places.specs.Place.{placeAt}
 use Rattle.places.specs.Shape.{Shaped, Misshapen}
 use Rattle.place_window.specs.Window.{cellAt}
 use Rattle.cells.specs.Cell.{readCell}
+use Rattle.cutting.specs.declared.Request.{Request}
 use Rattle.oldest.specs.declared.OldestAnswer.{OldestAnswer}
 use Rattle.refusal.specs.declared.Refusal.the-variants.{BadStore, NotHeld}
 use Rattle.metric.specs.declared.Cell.the-variants.{Empty, Filled}
@@ -37,3 +38,7 @@ pub data OldestGiven (places cells : List ℕ) (k : ℕ) : OldestAnswer → Type
   isFree : Shaped places cells → k < length places → placeAt places k ≡ Free → OldestGiven places cells k (answer.Refused NotHeld)
   held : Shaped places cells → (ssrc highest number : ℕ) → placeAt places k ≡ Held ssrc highest → OldestIs cells k highest number
       → OldestGiven places cells k (answer.Number number)
+
+-- the request for a stream's numbers that start at begin and end with highest
+abbrev pub upToHighest : ℕ → ℕ → ℕ → Request
+upToHighest ssrc highest begin = record { ssrc = ssrc; begin = begin; count = distanceOf highest begin + 1 }
