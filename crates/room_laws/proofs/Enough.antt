@@ -14,7 +14,7 @@ use Rattle.cutting.specs.Plan.{filledFrom, packetsFrom, mostPackets, plan, tota
 use Rattle.cutting.specs.declared.Request.{Request}
 use Rattle.cutting.proofs.Plan.{filled-none, filled-cases}
 use Rattle.cutting.proofs.FromRules.{length-whole}
-use Rattle.room_laws.specs.Room.{room, sumOfCounts, roomOfRequests, Suffice}
+use Rattle.room_laws.specs.Room.{numberOctets, requestOctets, room, sumOfCounts, roomOfRequests, Suffice}
 
 -- ---- what is left to report, and the room for it
 
@@ -69,5 +69,5 @@ room-enough limit rs l =
     omega (arith, packets-within (mostPackets w) limit w l, counts-whole 0 rs, length-whole 0 rs)
 
 -- the same, said of the two numbers of octets
-pub room-suffices : Suffice 12 20
+pub room-suffices : Suffice numberOctets requestOctets
 room-suffices limit rs l m f c = omega (arith, room-enough limit rs l)

@@ -9,9 +9,15 @@ use Rattle.cutting.specs.Limits.{leastLimit, mostLimit, mostRequests}
 use Rattle.cutting.specs.Plan.{plan, totalOctets}
 use Rattle.cutting.specs.declared.Request.{Request}
 
--- 12 octets a number and 20 a request
+-- octets of output for each number that is asked for, and beside them for each request
+abbrev pub numberOctets : ℕ
+numberOctets = 12
+
+abbrev pub requestOctets : ℕ
+requestOctets = 20
+
 abbrev pub room : ℕ → ℕ → ℕ
-room numbers requests = 12 * numbers + 20 * requests
+room numbers requests = numberOctets * numbers + requestOctets * requests
 
 -- the counts of requests, together
 abbrev pub sumOfCounts : List Request → ℕ
@@ -22,8 +28,9 @@ sumOfCounts (r ∷ rs) = r .count + sumOfCounts rs
 abbrev pub roomOfRequests : List Request → ℕ
 roomOfRequests rs = room (sumOfCounts rs) (length rs)
 
--- `a` octets a number and `b` a request are enough for what the writer may accept: a limit from
--- 24 to 9,000, and at most 16 requests of at most 2,048 numbers each
+-- `a` octets a number and `b` a request are enough at each limit from 24 to 9,000, for at most 16
+-- requests of at most 2,048 numbers each. These are all requests that the writer may accept, and
+-- more: here a stream may be repeated, and a range may begin anywhere.
 abbrev pub Suffice : ℕ → ℕ → Type 0
 Suffice a b =
     (limit : ℕ) (rs : List Request) → leastLimit ≤ limit → limit ≤ mostLimit
