@@ -1,5 +1,5 @@
 // The calls for C that forget a stream of a store that the caller lends, that read a place of it,
-// and that give the oldest number of a place that arrived.
+// and that give the oldest number that arrived, of the window of a place.
 ghost use mathlib.Core.Path.{_≡_};
 ghost use mathlib.Core.List.{[], _∷_};
 ghost use Rattle.places.specs.After.{placesAfter};

@@ -1,5 +1,5 @@
--- Rules: "Packet rules", "Cuttings". How requests may be split into packets: what a customer must
--- believe of it. No algorithm stands here.
+-- Rules: "Requests", "Packet rules", "Cuttings". How requests may be split into packets: what a
+-- customer must believe of it. No algorithm stands here.
 use mathlib.Core.Path.{_≡_}
 use mathlib.Core.Logic.{_≢_}
 use mathlib.Core.Bool.{cond}

@@ -1,6 +1,6 @@
--- Rules: "What a store means". The meaning as a machine of its own, without cells and rings: each
--- place is free, or holds a stream with its SSRC, its highest full number and its accepted
--- arrivals.
+-- Rules: "Arrivals and the window", "What a store means". The meaning as a machine of its own,
+-- without cells and rings: each place is free, or holds a stream with its SSRC, its highest full
+-- number and its accepted arrivals.
 use Prim.Native.Nat.{ℕ, _+_, _%_, max}
 use mathlib.Core.Bool.{Bool, true, false, cond}
 use mathlib.Core.List.{List, [], _∷_, _++_}

@@ -1,5 +1,6 @@
--- Rules: "Metric", "Reading a metric". The 16 bits of a sequence number: from the highest R (1
--- bit), the ECN mark (2 bits) and the arrival time offset (ATO, 13 bits).
+-- Rules: "Arrivals and the window", "Metric", "Reading a metric". The 16 bits of a sequence
+-- number: from the highest R (1 bit), the ECN mark (2 bits) and the arrival time offset (ATO, 13
+-- bits).
 use Prim.Native.Nat.{ℕ, _+_, _-_, _*_, _/_, _%_, _^_, _<_}
 use mathlib.Core.Bool.{Bool, true, false, cond}
 use lib.Dec.{eqb, ltb, leb}

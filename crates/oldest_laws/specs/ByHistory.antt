@@ -1,5 +1,5 @@
--- Rules: "What a store means", rule "Oldest number". The oldest number of a stream's window, by its
--- accepted arrivals alone. An entry is an accepted arrival with its full number.
+-- Rules: "What a store means", rule "Oldest by history". The oldest number of a stream's window,
+-- by its accepted arrivals alone. An entry is an accepted arrival with its full number.
 use Prim.Native.Nat.{ℕ, _+_, _≤_, _<_}
 use mathlib.Core.Path.{_≡_}
 use mathlib.Core.List.{List, List·Memᴰ}

@@ -1,6 +1,6 @@
--- Rules: "Order of refusals", rule "Oldest number". When the call for the oldest number of a stream
--- gives which answer, one case for each rule, for a store of any lent content. Of several refusals
--- that apply the first is given: 4, 5.
+-- Rules: "Arrivals and the window", "Order of refusals". When the call for the oldest number of a
+-- stream (rule "Oldest number") gives which answer, one case for each rule, for a store of any
+-- lent content. Of several refusals that apply the first is given: 4, 5.
 use Prim.Native.Nat.{ℕ, _+_, _≤_, _<_}
 use mathlib.Core.Path.{_≡_}
 use mathlib.Core.List.{List}

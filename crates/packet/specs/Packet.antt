@@ -1,5 +1,5 @@
--- Rules: "Packet". A packet as data, and its octets. Reader, rewriter and writer share these
--- definitions.
+-- Rules: "Sources", "Packet". A packet as data, and its octets. Reader, rewriter and writer share
+-- these definitions.
 use Prim.Native.Nat.{ℕ, _+_, _-_, _*_, _/_, _%_, _^_, _<_, _≤_}
 use mathlib.Core.Bool.{cond}
 use mathlib.Core.List.{List, [], _∷_, _++_, map}

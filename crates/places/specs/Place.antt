@@ -1,5 +1,5 @@
--- Rules: "Store words", rule "Place word". How a place's 64-bit word stores the stream that it
--- holds. Any word reads as free or held.
+-- Rules: "What a store means", "Store words". How a place's 64-bit word stores the stream that it
+-- holds (rule "Place word"). Any word reads as free or held.
 --   word / 2^48          1 where the place is held; any other word reads as free
 --   word / 2^16 % 2^32   the SSRC of the stream
 --   word % 2^16          its highest sequence number

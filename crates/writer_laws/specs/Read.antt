@@ -1,5 +1,6 @@
--- Rules: "Writer", "Cuttings". What a reader finds in the writer's output. Nothing here is the
--- writer's: a walk over length fields, and the reader's own walk over blocks.
+-- Rules: "Cuttings", "How packets are filled", "Writer". What a reader finds in the writer's
+-- output. Nothing here is the writer's: a walk over length fields, and the reader's own walk over
+-- blocks.
 use Prim.Native.Nat.{ℕ, zero, suc, _+_, _*_, _%_, _^_, _≤_, _<_}
 use mathlib.Core.Path.{_≡_}
 use mathlib.Core.Bool.{cond}

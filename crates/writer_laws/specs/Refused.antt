@@ -1,5 +1,5 @@
--- Rules: "Refusals", "Order of refusals". When each refusal of the writer is given, in the words of
--- the rules. First 4, 6, 7; for each request in turn 5, 8, 9; and last 10.
+-- Rules: "Requests", "Writer", "Refusals", "Order of refusals". When each refusal of the writer is
+-- given, in the words of the rules. First 4, 6, 7; for each request in turn 5, 8, 9; and last 10.
 use Prim.Native.Nat.{ℕ, _-_, _≤_, _<_}
 use mathlib.Core.Path.{_≡_}
 use mathlib.Core.Logic.{_⊎_}
