@@ -274,8 +274,8 @@ impl Iterator for Metrics<'_> {
 
 impl ExactSizeIterator for Metrics<'_> {}
 
-/// Writes a packet to the start of `out` with each not-received metric set to 0x0000 and the rest
-/// unchanged. Returns how many octets; the rest of `out` stays as it was.
+/// Copies a packet to the start of `out` and clears the bits that a reader ignores: those of
+/// metrics that say "not received". Returns how many octets; the rest of `out` stays as it was.
 ///
 /// # Errors
 ///

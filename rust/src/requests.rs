@@ -6,9 +6,10 @@ use core::ops::Deref;
 
 /// A request for feedback on `count` numbers of a stream, starting at `begin`.
 ///
-/// They must lie in the stream's window: (H - begin) modulo 65536 is below 2,048 and at least
-/// count - 1. A count of 0 asks for an empty block and needs begin = H. The requests that
-/// [`Stream`](crate::Stream) makes meet this.
+/// They must lie within the stream's window: the first is at most 2,047 behind H, and the last is
+/// not ahead of it. A count of 0 asks for an empty block and needs begin = H. The requests that
+/// [`Stream`](crate::Stream) makes are like that. **Never ask for numbers from before the oldest
+/// that arrived**: they would be reported as missing.
 #[derive(Clone, Copy, Debug, PartialEq, Eq, Hash)]
 #[repr(C)]
 pub struct Request {

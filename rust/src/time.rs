@@ -23,7 +23,7 @@ const FRACTION_BITS: u32 = 16;
 pub enum Time {
     /// It arrived at an unknown time.
     Unknown,
-    /// A count of 1/65536 s: the middle 32 bits of an NTP timestamp.
+    /// A count of 1/65536 s, as [`ntp_time`](crate::ntp_time) makes it of a clock's time.
     At(u32),
 }
 
