@@ -62,13 +62,13 @@ static bool is_rtp(const uint8_t *datagram, size_t len)
     return len >= RTP_HEADER && datagram[0] >> 6 == 2 && (datagram[1] < 192 || datagram[1] > 223);
 }
 
-static void record(const uint8_t *rtp, uint8_t ecn, const struct timespec *arrival)
+static void record(const uint8_t *rtp, uint8_t ecn, uint32_t arrival)
 {
     uint16_t number = (uint16_t)(rtp[2] << 8 | rtp[3]);
     uint32_t ssrc =
         (uint32_t)rtp[8] << 24 | (uint32_t)rtp[9] << 16 | (uint32_t)rtp[10] << 8 | rtp[11];
     uint8_t refused = ccfb_arrive(places, PLACES, cells, CCFB_CELLS(PLACES), ssrc, number, ecn,
-                                  arrival != NULL, arrival != NULL ? ntp_time(arrival) : 0);
+                                  true, arrival);
     if (refused != 0)
         fprintf(stderr, "stream %08x, number %u: %s\n", (unsigned)ssrc, number,
                 ccfb_refusal_text(refused));
@@ -95,18 +95,17 @@ static void receive_all(int s)
     struct msghdr message;
     ssize_t len;
     while ((len = receive(s, datagram, &message, control)) >= 0) {
-        struct timespec instant, *arrival = NULL;
+        struct timespec arrival = time_of(CLOCK_REALTIME); /* unless the kernel knows better */
         uint8_t ecn = CCFB_NOT_ECT;
         for (struct cmsghdr *c = CMSG_FIRSTHDR(&message); c != NULL; c = CMSG_NXTHDR(&message, c)) {
             if (c->cmsg_level == IPPROTO_IP && c->cmsg_type == IP_TOS) {
                 ecn = *CMSG_DATA(c) & 3;
             } else if (c->cmsg_level == SOL_SOCKET && c->cmsg_type == SCM_TIMESTAMPNS) {
-                memcpy(&instant, CMSG_DATA(c), sizeof instant);
-                arrival = &instant;
+                memcpy(&arrival, CMSG_DATA(c), sizeof arrival);
             }
         }
         if (is_rtp(datagram, (size_t)len))
-            record(datagram, ecn, arrival);
+            record(datagram, ecn, ntp_time(&arrival));
     }
 }
 
@@ -209,8 +208,7 @@ static void send_rtp(int s, uint16_t number, int ecn)
     rtp[9] = (uint8_t)(CAMERA >> 16);
     rtp[10] = (uint8_t)(CAMERA >> 8);
     rtp[11] = (uint8_t)CAMERA;
-    setsockopt(s, IPPROTO_IP, IP_TOS, &ecn, sizeof ecn);
-    if (send(s, rtp, sizeof rtp, 0) < 0)
+    if (setsockopt(s, IPPROTO_IP, IP_TOS, &ecn, sizeof ecn) != 0 || send(s, rtp, sizeof rtp, 0) < 0)
         perror("send");
 }
 
@@ -268,6 +266,13 @@ static int bound_socket(struct sockaddr_in *address)
     return s;
 }
 
+static void switch_on(int s, int level, int option)
+{
+    int on = 1;
+    if (setsockopt(s, level, option, &on, sizeof on) != 0)
+        perror("setsockopt");
+}
+
 static void connect_to(int s, const struct sockaddr_in *address)
 {
     if (connect(s, (const struct sockaddr *)address, sizeof *address) != 0) {
@@ -291,11 +296,11 @@ int main(void)
     enum { PACKETS = 100, PACKETS_OF_A_REPORT = 20 };
     struct sockaddr_in camera_address, receiver_address;
     struct timespec frame = {0, 1000000};
-    int camera = bound_socket(&camera_address), receiver = bound_socket(&receiver_address), on = 1;
+    int camera = bound_socket(&camera_address), receiver = bound_socket(&receiver_address);
     connect_to(camera, &receiver_address);
     connect_to(receiver, &camera_address);
-    setsockopt(receiver, IPPROTO_IP, IP_RECVTOS, &on, sizeof on);
-    setsockopt(receiver, SOL_SOCKET, SO_TIMESTAMPNS, &on, sizeof on);
+    switch_on(receiver, IPPROTO_IP, IP_RECVTOS);
+    switch_on(receiver, SOL_SOCKET, SO_TIMESTAMPNS);
 
     for (unsigned i = 0; i < PACKETS; i++) {
         send_packet(camera, i);
