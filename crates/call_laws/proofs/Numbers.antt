@@ -11,6 +11,7 @@ use Rattle.refusal.specs.declared.Refusal.the-variants.{BadMark, NoFreePlace, T
 use Rattle.refusal.specs.declared.Refusal.the-variants.{BadLimit, TooManyRequests, StreamRepeated, BadRange, OutputTooShort}
 use Rattle.refusal.specs.declared.Refusal.the-variants.{BadFileMark, BadFileVersion, RecordCutShort, BadRecord}
 use Rattle.refusal.specs.declared.Refusal.the-variants.{PacketTooShort, BadVersion, BadType, BadLength, Padded, RunsIntoRts, TooManyReports, FillerNotZero, NoBlock, NoNumber}
+use Rattle.refusal.specs.declared.Refusal.the-variants.{BadDatagram, NoPacket}
 
 -- the refusal of a number, where there is one
 table : List (Option Refusal)
@@ -20,7 +21,8 @@ table =
     ∷ some BadFileMark ∷ some BadFileVersion ∷ some RecordCutShort ∷ some BadRecord
     ∷ none ∷ none ∷ none ∷ none ∷ none ∷ none
     ∷ some PacketTooShort ∷ some BadVersion ∷ some BadType ∷ some BadLength ∷ some Padded
-    ∷ some RunsIntoRts ∷ some TooManyReports ∷ some FillerNotZero ∷ some NoBlock ∷ some NoNumber ∷ []
+    ∷ some RunsIntoRts ∷ some TooManyReports ∷ some FillerNotZero ∷ some NoBlock ∷ some NoNumber
+    ∷ some BadDatagram ∷ some NoPacket ∷ []
 
 refusalOf : ℕ → Option Refusal
 unfolding table
@@ -52,6 +54,8 @@ own TooManyReports = refl
 own FillerNotZero = refl
 own NoBlock = refl
 own NoNumber = refl
+own BadDatagram = refl
+own NoPacket = refl
 
 pub own-number : (d e : Refusal) → numberOf d ≡ numberOf e → d ≡ e
 own-number d e h = let z : some d ≡ some e = sym (own d) ∙ ap refusalOf h ∙ own e in cc

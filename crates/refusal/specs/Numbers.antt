@@ -6,6 +6,7 @@ use Rattle.refusal.specs.declared.Refusal.the-variants.{BadMark, NoFreeP
 use Rattle.refusal.specs.declared.Refusal.the-variants.{BadLimit, TooManyRequests, StreamRepeated, BadRange, OutputTooShort}
 use Rattle.refusal.specs.declared.Refusal.the-variants.{BadFileMark, BadFileVersion, RecordCutShort, BadRecord}
 use Rattle.refusal.specs.declared.Refusal.the-variants.{PacketTooShort, BadVersion, BadType, BadLength, Padded, RunsIntoRts, TooManyReports, FillerNotZero, NoBlock, NoNumber}
+use Rattle.refusal.specs.declared.Refusal.the-variants.{BadDatagram, NoPacket}
 
 abbrev pub numberOf : Refusal → ℕ
 -- arrivals and the store
@@ -36,3 +37,6 @@ numberOf TooManyReports = 27
 numberOf FillerNotZero = 28
 numberOf NoBlock = 29
 numberOf NoNumber = 30
+-- datagrams
+numberOf BadDatagram = 31
+numberOf NoPacket = 32

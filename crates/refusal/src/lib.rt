@@ -2,7 +2,7 @@
 ghost use mathlib.Core.Path.{_≡_};
 ghost use Rattle.refusal.specs.Numbers.{numberOf};
 
-// Why a call refuses: first arrivals and the store, then the writer, the arrival file, and the reader.
+// Why a call refuses: first arrivals and the store, then the writer, the arrival file, the reader, and datagrams.
 pub enum Refusal {
     BadMark,
     NoFreePlace,
@@ -28,6 +28,8 @@ pub enum Refusal {
     FillerNotZero,
     NoBlock,
     NoNumber,
+    BadDatagram,
+    NoPacket,
 }
 
 // The number that a caller is given for a refusal.
@@ -59,5 +61,7 @@ pub fn number(e: Refusal) -> u8
         Refusal::FillerNotZero => 28,
         Refusal::NoBlock => 29,
         Refusal::NoNumber => 30,
+        Refusal::BadDatagram => 31,
+        Refusal::NoPacket => 32,
     }
 }

@@ -1,0 +1,31 @@
+-- Rules: "Datagram", rule "CCFB packets". Which packets of a datagram are CCFB packets: told by the
+-- header alone.
+use Prim.Native.Nat.{ℕ}
+use mathlib.Core.Path.{_≡_}
+use mathlib.Core.Bool.{Bool, _&&_}
+use mathlib.Core.List.{List, _∷_, _++_}
+use lib.ListN.{length}
+use lib.Dec.{eqb}
+use Rattle.lists.specs.Kept.{kept}
+use Rattle.packet.specs.Packet as packet
+use Rattle.packet_header.specs.Header.{formatOf, typeOf}
+use Rattle.datagram.specs.declared.RtcpPacket.{RtcpPacket}
+
+-- type 205 and FMT 11
+abbrev pub isFeedback : ℕ → ℕ → Bool
+isFeedback type format = eqb type packet.packetType && eqb format packet.format
+
+-- the CCFB packets among those that a walk found
+abbrev pub feedbackOf : List RtcpPacket → List RtcpPacket
+feedbackOf ps = kept (λ p. isFeedback (p .«packet_type») (p .format)) ps
+
+-- the CCFB packets among packets as octets
+abbrev pub feedbackIn : List (List ℕ) → List (List ℕ)
+feedbackIn ps = kept (λ p. isFeedback (typeOf p) (formatOf p)) ps
+
+-- p is CCFB packet k, from 0, of the packets ps
+pub record KthFeedback (ps : List (List ℕ)) (k : ℕ) (p : List ℕ) : Type 0 where
+  pub before : List (List ℕ)
+  pub after : List (List ℕ)
+  pub order : feedbackIn ps ≡ before ++ p ∷ after
+  pub count : length before ≡ k
