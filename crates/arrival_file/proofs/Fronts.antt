@@ -5,21 +5,13 @@ use mathlib.Core.List.{List, _++_}
 use native.Mathlib.Omega.{arith}
 use borrow.Author.Tests.{le-ltb}
 use lib.ListN.{length, getD, length-append, List·getD-append}
-use Rattle.octets.specs.Octets.{be16, be32}
+use Rattle.octets.proofs.Parts.{front16, front32}
 use Rattle.arrival_record.specs.Record.{recordReadOf, recordOctets}
 use Rattle.arrival_file.specs.File.{headerOf, fileHeaderOctets}
 
 module _ (s t : List ℕ) where
   front : (i : ℕ) → i < length s → getD (s ++ t) i 0 ≡ getD s i 0
   front i h = List·getD-append s t 0 i h
-
-  front16 : (i : ℕ) → i + 2 ≤ length s → be16 (s ++ t) i ≡ be16 s i
-  unfolding be16
-  front16 i h = rw (front i (omega arith), front (i + 1) (omega arith))
-
-  front32 : (i : ℕ) → i + 4 ≤ length s → be32 (s ++ t) i ≡ be32 s i
-  unfolding be32
-  front32 i h = rw (front16 i (omega arith), front16 (i + 2) (omega arith))
 
   pub header-front : fileHeaderOctets ≤ length s → headerOf (s ++ t) ≡ headerOf s
   unfolding headerOf
@@ -30,7 +22,7 @@ module _ (s t : List ℕ) where
         front 0 (omega arith),
         front 1 (omega arith),
         front 2 (omega arith),
-        front16 3 (omega arith),
+        front16 s t 3 (omega arith),
       )
 
   pub entry-front : recordOctets ≤ length s → recordReadOf (s ++ t) ≡ recordReadOf s
@@ -41,7 +33,7 @@ module _ (s t : List ℕ) where
         le-ltb (length s) recordOctets h,
         front 6 (omega arith),
         front 7 (omega arith),
-        front16 4 (omega arith),
-        front32 0 (omega arith),
-        front32 8 (omega arith),
+        front16 s t 4 (omega arith),
+        front32 s t 0 (omega arith),
+        front32 s t 8 (omega arith),
       )

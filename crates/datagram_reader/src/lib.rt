@@ -68,7 +68,11 @@ pub fn feedback(datagram: &[u8], k: usize) -> FeedbackAnswer
         FeedbackAnswer::Found(p) => {
             let reading = reader::read(part_of(datagram, p));
             match reading {
-                Reading::Accepted { sender: _, rts: _, blocks: _ } => FeedbackAnswer::Found(p),
+                Reading::Accepted {
+                    sender: _,
+                    rts: _,
+                    blocks: _,
+                } => FeedbackAnswer::Found(p),
                 Reading::Refused(e) => FeedbackAnswer::Refused(e),
             }
         }

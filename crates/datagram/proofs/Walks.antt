@@ -1,0 +1,43 @@
+-- The walk over a datagram, a step at a time. Assumes nothing.
+use Prim.Native.Nat.{ℕ, zero, suc, _+_, _≤_}
+use mathlib.Core.Path.{_≡_, refl, ap, subst, _∙_}
+use mathlib.Core.List.{List, [], _∷_}
+use native.Mathlib.Omega.{arith}
+use lib.ListN.{length}
+use Rattle.datagram.specs.Walk.{packetAt, Parsed, packets, broken, inFront, behind, onward, walk, packetsFrom}
+use Rattle.datagram.specs.declared.RtcpPacket.{RtcpPacket}
+use Rattle.datagram.specs.declared.PacketStep.{PacketStep}
+use Rattle.datagram.proofs.Steps.{step-end, found-more}
+use Rattle.datagram.specs.declared.PacketStep.the-variants.{Packet, End, Broken}
+
+module _ (s : List ℕ) where
+  -- any bound that is enough gives the same walk
+  pub walk-enough : (n m at : ℕ) → length s ≤ n + at → length s ≤ m + at → walk n s at ≡ walk m s at
+  unfolding walk
+  walk-enough zero zero at g h = refl
+  walk-enough zero (suc m) at g h = rw (← step-end s at (omega arith))
+  walk-enough (suc n) zero at g h = rw (← step-end s at (omega arith))
+  walk-enough (suc n) (suc m) at g h =
+      by-step (packetAt s at)
+      (λ p f. walk-enough n m (behind p) (omega (arith, found-more s at p f)) (omega (arith, found-more s at p f))) refl
+    where
+      by-step : (k : PacketStep) → ((p : RtcpPacket) → packetAt s at ≡ Packet p → walk n s (behind p) ≡ walk m s (behind p)) → packetAt s at ≡ k
+          → onward k (λ i. walk n s i) ≡ onward k (λ i. walk m s i)
+      by-step (Packet p) rest f = ap (inFront p) (rest p f)
+      by-step End rest f = refl
+      by-step Broken rest f = refl
+
+  -- the walk that starts at an offset is what stands there, and the walk behind it
+  pub walk-step : (at : ℕ) → packetsFrom s at ≡ onward (packetAt s at) (packetsFrom s)
+  unfolding walk
+  walk-step at = walk-enough (length s) (suc (length s)) at (omega arith) (omega arith)
+
+  module _ (at : ℕ) (k : PacketStep) (is : k ≡ packetAt s at) where
+    pub walk-packet : (p : RtcpPacket) → k ≡ Packet p → packetsFrom s at ≡ inFront p (packetsFrom s (behind p))
+    walk-packet p e = walk-step at ∙ rw (← is, e)
+
+    pub walk-end : k ≡ End → packetsFrom s at ≡ packets []
+    walk-end e = walk-step at ∙ rw (← is, e)
+
+    pub walk-broken : k ≡ Broken → packetsFrom s at ≡ broken
+    walk-broken e = walk-step at ∙ rw (← is, e)
