@@ -2,7 +2,7 @@
 -- header alone.
 use Prim.Native.Nat.{ℕ}
 use mathlib.Core.Path.{_≡_}
-use mathlib.Core.Bool.{Bool, _&&_}
+use mathlib.Core.Bool.{Bool, true, _&&_}
 use mathlib.Core.List.{List, _∷_, _++_}
 use lib.ListN.{length}
 use lib.Dec.{eqb}
@@ -23,9 +23,10 @@ feedbackOf ps = kept (λ p. isFeedback (p .«packet_type») (p .format)) ps
 abbrev pub feedbackIn : List (List ℕ) → List (List ℕ)
 feedbackIn ps = kept (λ p. isFeedback (typeOf p) (formatOf p)) ps
 
--- p is CCFB packet k, from 0, of the packets ps
+-- p is CCFB packet k, from 0, of the packets ps: it is one of them, and k CCFB packets stand before it
 pub record KthFeedback (ps : List (List ℕ)) (k : ℕ) (p : List ℕ) : Type 0 where
   pub before : List (List ℕ)
   pub after : List (List ℕ)
-  pub order : feedbackIn ps ≡ before ++ p ∷ after
-  pub count : length before ≡ k
+  pub order : ps ≡ before ++ p ∷ after
+  pub feedback : isFeedback (typeOf p) (formatOf p) ≡ true
+  pub count : length (feedbackIn before) ≡ k
