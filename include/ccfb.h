@@ -2,17 +2,19 @@
  * Nadrwythol: RTCP Congestion Control Feedback (CCFB, RFC 8888).
  *
  * A receiver records RTP arrivals in a store (ccfb_arrive) and writes feedback from it
- * (ccfb_write); a sender reads the feedback (ccfb_read and what follows). docs/MANUAL.md explains
- * each call with an example, docs/RULES.md has the exact rules.
+ * (ccfb_write); a sender finds the feedback in a datagram (ccfb_feedback) and reads it (ccfb_read
+ * and what follows). docs/MANUAL.md explains each call with an example, docs/RULES.md has the
+ * exact rules.
  *
  * Answers. A call that can be refused returns 0, or the number of its refusal: the first one that
  * applies, in the order that stands at the call. ccfb_refusal_text puts a number into words. A
- * refused call leaves the caller's memory unchanged; only ccfb_block_metrics then sets its two
- * outputs to 0.
+ * refused call leaves the caller's memory unchanged; only ccfb_block_metrics and ccfb_feedback
+ * then set their two outputs to 0.
  *
  * Pointers. A pointer to a single value must be valid. A pointer with a length must be valid for
  * that many elements; with length 0 it may be NULL. Lengths count elements of the array's type,
- * which for packets are octets. Any value is safe to pass for what is not a pointer or a length.
+ * which for packets and datagrams are octets. Any value is safe to pass for what is not a pointer
+ * or a length.
  *
  * Overlap. Memory that a call writes must not overlap any other memory that is passed to it. So a
  * packet cannot be rewritten in place, and two outputs cannot be one variable. What a call only
@@ -63,6 +65,8 @@ extern "C" {
 #define CCFB_FILLER_NOT_ZERO 28  /* filler is not zero */
 #define CCFB_NO_BLOCK 29         /* no such report block */
 #define CCFB_NO_NUMBER 30        /* no such sequence number in the block */
+#define CCFB_BAD_DATAGRAM 31     /* datagram is not RTCP packets back to back */
+#define CCFB_NO_PACKET 32        /* no such packet in the datagram */
 
 /* ---- Metrics: what feedback says of one sequence number */
 
@@ -307,6 +311,59 @@ uint8_t ccfb_decode_metrics(const uint8_t *part, size_t len, uint8_t *kinds, siz
 uint8_t ccfb_rewrite(const uint8_t *packet, size_t len, uint8_t *out, size_t out_len,
                      size_t *written);
 
+/* ---- Finding feedback in a datagram; each call accepts any octets
+ *
+ * A datagram is RTCP packets of any type back to back: each has 4 octets or more, version 2, and
+ * the octets that its length field says; only the last may have the padding flag set. It may start
+ * with any packet, be a single packet, or have no octets and so no packet. */
+
+/* The type and the FMT of a CCFB packet. */
+#define CCFB_PACKET_TYPE 205
+#define CCFB_FORMAT 11
+
+/*
+ * How many CCFB packets a datagram holds. Their headers alone are looked at, so those that
+ * ccfb_read would refuse count too.
+ *
+ * Returns 0, or this; *count is then unchanged:
+ *   CCFB_BAD_DATAGRAM   fewer than 4 octets are left behind a packet, a version is not 2, a length
+ *                       field reaches past the end, or a packet before the last is padded
+ */
+uint8_t ccfb_feedback_count(const uint8_t *datagram, size_t len, size_t *count);
+
+/*
+ * CCFB packet k, from 0: the octet where it starts and its length in octets. It is checked as
+ * ccfb_read checks a packet; read it at datagram + packet_at.
+ *
+ * The whole datagram is walked first, also behind packet k. Padding is not taken off: a last
+ * packet with the padding flag is refused.
+ *
+ * Returns 0, or the first of these that applies; both outputs are then 0:
+ *   CCFB_BAD_DATAGRAM   as for ccfb_feedback_count
+ *   CCFB_NO_PACKET      k is not below the number of CCFB packets
+ *   CCFB_PACKET_TOO_SHORT, CCFB_PADDED, CCFB_RUNS_INTO_RTS, CCFB_TOO_MANY_REPORTS,
+ *   CCFB_FILLER_NOT_ZERO: as ccfb_read refuses the packet
+ */
+uint8_t ccfb_feedback(const uint8_t *datagram, size_t len, size_t k, size_t *packet_at,
+                      size_t *packet_length);
+
+/*
+ * All packets of a datagram, of any type, in one pass. Set *at to 0; each call gives the packet
+ * there and moves *at past it.
+ *
+ *   packet_type                200 for a sender report, 205 for CCFB and other feedback, ...
+ *   format                     FMT, the low 5 bits of octet 0; some types have a count there
+ *   packet_at, packet_length   the octet where it starts, and its length in octets
+ *
+ * A fault is told when the walk gets there, so packets in front of it were given before. To take
+ * nothing from a faulty datagram, call ccfb_feedback_count first.
+ *
+ * Returns 0, CCFB_NO_PACKET after the last packet, or CCFB_BAD_DATAGRAM if no packet is at *at.
+ * Nothing is written then. *at may be any number.
+ */
+uint8_t ccfb_next_packet(const uint8_t *datagram, size_t len, size_t *at, uint8_t *packet_type,
+                         uint8_t *format, size_t *packet_at, size_t *packet_length);
+
 /* ---- Refusals in words */
 
 /*
@@ -341,6 +398,8 @@ static inline const char *ccfb_refusal_text(uint8_t refused)
     case CCFB_FILLER_NOT_ZERO: return "filler is not zero";
     case CCFB_NO_BLOCK: return "no such report block";
     case CCFB_NO_NUMBER: return "no such sequence number in the block";
+    case CCFB_BAD_DATAGRAM: return "datagram is not RTCP packets back to back";
+    case CCFB_NO_PACKET: return "no such packet in the datagram";
     default: return "unknown refusal";
     }
 }
