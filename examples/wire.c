@@ -2,7 +2,7 @@
  * Feedback on the wire: a camera and a receiver over UDP, on this machine and by its real clock.
  * The camera sends RTP, of which some is lost and some comes late; the receiver reports after
  * every 20 packets; the camera reads the reports. docs/WIRE.md goes through the receiver's part.
- * Linux, IPv4, reduced-size RTCP.
+ * Linux, IPv4, compound RTCP.
  */
 #ifndef _GNU_SOURCE
 #define _GNU_SOURCE
@@ -20,9 +20,10 @@
 
 enum {
     PLACES = 4,
-    LIMIT = 1200, /* octets of a feedback packet, within every usual path's MTU */
-    AGAIN = 8,    /* numbers of the last report that each report repeats */
-    SILENCE = 10, /* seconds after which a stream is forgotten */
+    FRONT = 24,           /* octets of a datagram in front of the feedback */
+    LIMIT = 1200 - FRONT, /* octets of a feedback packet: within every usual path's MTU */
+    AGAIN = 8,            /* numbers of the last report that each report repeats */
+    SILENCE = 10,         /* seconds after which a stream is forgotten */
     ROOM = CCFB_ROOM(CCFB_CELLS(PLACES), PLACES), /* enough for any report */
     RTP_HEADER = 12,
     DATAGRAM = 1500,
@@ -161,15 +162,22 @@ static bool next_request(size_t k, time_t now, struct ccfb_request *request)
     return request->count != 0;
 }
 
-/* Sends each of the packets in a datagram of its own: a packet is as long as its header says. */
+/* What each datagram starts with: an empty receiver report and the receiver's name. */
+static const uint8_t front[FRONT] = {
+    0x80, 201, 0, 1, 0, 0, 0, 0xf1,                                    /* RR, 8 octets */
+    0x81, 202, 0, 3, 0, 0, 0, 0xf1, 1, 5, 'c', 'l', 'o', 't', 'h', 0, /* SDES, 16 octets */
+};
+
+/* Sends each of the packets in a datagram of its own. */
 static bool send_packets(int s, const uint8_t *packets, size_t octets)
 {
-    while (octets != 0) {
-        size_t len = 4 * ((size_t)(packets[2] << 8 | packets[3]) + 1);
-        if (send(s, packets, len, 0) < 0)
+    uint8_t datagram[FRONT + LIMIT], type, format;
+    size_t at = 0, packet_at, len;
+    memcpy(datagram, front, FRONT);
+    while (ccfb_next_packet(packets, octets, &at, &type, &format, &packet_at, &len) == 0) {
+        memcpy(datagram + FRONT, packets + packet_at, len);
+        if (send(s, datagram, FRONT + len, 0) < 0)
             return false;
-        packets += len;
-        octets -= len;
     }
     return true;
 }
@@ -228,25 +236,43 @@ static void print_block(const uint8_t *part, uint16_t begin, uint16_t count)
     printf("starting at %u: %u numbers, %u missing, %u ECN-CE\n", begin, count, missing, congested);
 }
 
-/* Reads every report that has come. */
+/* Reads a feedback packet: the blocks of the camera's own stream. */
+static void read_feedback(const uint8_t *packet, size_t len)
+{
+    uint32_t ssrc;
+    uint16_t begin, count;
+    size_t at, metrics_at;
+    uint8_t refused = ccfb_first_block(packet, len, &at);
+    while (refused == 0) {
+        refused = ccfb_next_block(packet, len, &at, &ssrc, &begin, &count, &metrics_at);
+        if (refused == 0 && ssrc == CAMERA)
+            print_block(packet + metrics_at, begin, count);
+    }
+    if (refused != CCFB_NO_BLOCK)
+        fprintf(stderr, "camera: feedback refused, %s\n", ccfb_refusal_text(refused));
+}
+
+/* Reads the feedback in a datagram, whatever other packets it has. */
+static void read_datagram(const uint8_t *datagram, size_t len)
+{
+    uint8_t type, format, refused = 0;
+    size_t at = 0, packet_at, packet_len;
+    while (refused == 0) {
+        refused = ccfb_next_packet(datagram, len, &at, &type, &format, &packet_at, &packet_len);
+        if (refused == 0 && type == CCFB_PACKET_TYPE && format == CCFB_FORMAT)
+            read_feedback(datagram + packet_at, packet_len);
+    }
+    if (refused != CCFB_NO_PACKET)
+        fprintf(stderr, "camera: %s\n", ccfb_refusal_text(refused));
+}
+
+/* Reads every datagram that has come. */
 static void read_reports(int s)
 {
-    uint8_t datagram[DATAGRAM], refused;
+    uint8_t datagram[DATAGRAM];
     ssize_t len;
-    while ((len = recv(s, datagram, sizeof datagram, MSG_DONTWAIT)) >= 0) {
-        uint32_t ssrc;
-        uint16_t begin, count;
-        size_t at, metrics_at;
-        refused = ccfb_first_block(datagram, (size_t)len, &at);
-        while (refused == 0) {
-            refused = ccfb_next_block(datagram, (size_t)len, &at, &ssrc, &begin, &count,
-                                      &metrics_at);
-            if (refused == 0 && ssrc == CAMERA)
-                print_block(datagram + metrics_at, begin, count);
-        }
-        if (refused != CCFB_NO_BLOCK)
-            fprintf(stderr, "camera: %s\n", ccfb_refusal_text(refused));
-    }
+    while ((len = recv(s, datagram, sizeof datagram, MSG_DONTWAIT)) >= 0)
+        read_datagram(datagram, (size_t)len);
 }
 
 /* ---- Both on one machine */
