@@ -1,20 +1,18 @@
 -- What stands in front of octets, in each case and in the order of the tests; and at an offset. Assumes nothing.
-use Prim.Native.Nat.{ℕ, _+_, _*_, _/_, _%_, _<_, _≤_}
+use Prim.Native.Nat.{ℕ, _+_, _<_, _≤_}
 use mathlib.Core.Bool.{Bool, true, false, cond, _&&_}
 use mathlib.Core.Path.{_≡_, refl, sym, ap, subst, _∙_}
-use mathlib.Core.List.{List}
+use mathlib.Core.List.{List, _++_}
 use native.Mathlib.Omega.{arith}
-use native.Mathlib.Nat.{add-zero}
 use lib.Dec.{ltb}
 use borrow.Author.Tests.{lt-ltb, le-ltb, eq-eqb, ne-eqb}
-use lib.ListN.{length, drop, getD, length-drop}
-use lib.Seq.{getD-drop}
+use lib.ListN.{length, take, drop, getD, length-append, length-drop, take-append-drop, List·getD-append}
+use lib.Seq.{length-take-le}
 use Rattle.lists.proofs.Cases.{never, split-le, split-eq}
-use Rattle.octets.specs.Octets.{be16}
-use Rattle.octets.proofs.Parts.{dropped16}
-use Rattle.packet_header.specs.Header.{differ, versionOf, paddingOf, formatOf, typeOf, lengthOf}
+use Rattle.octets.proofs.Parts.{front16}
+use Rattle.packet_header.specs.Header.{differ, versionOf, paddingOf, lengthOf}
 use Rattle.datagram.specs.Walk.{packetHere, paddedInside, frontOf, packetAt, behind}
-use Rattle.datagram.specs.Datagram.{NoPacketIn}
+use Rattle.datagram.specs.Datagram.{IsPacket, NoPadding, NoPacketIn, placedAt}
 use Rattle.datagram.specs.declared.RtcpPacket.{RtcpPacket}
 use Rattle.datagram.specs.declared.PacketStep.{PacketStep}
 use Rattle.datagram.specs.declared.PacketStep.the-variants.{Packet, End, Broken}
@@ -91,6 +89,66 @@ front-cases P rest at end none packet =
         (λ l. subst P (front-last rest at h v f (omega arith))
         (packet (record { header = h; version = v; room = f; padding = λ m. absurd (omega arith) })))
         (λ l. subst P (front-padded rest at h v f l p) (none (NoPacketIn.paddedInside h l p))))
+
+-- ---- a packet, and the octets behind it
+
+-- p is a packet, and rest may stand behind it
+pub record PacketBefore (p rest : List ℕ) : Type 0 where
+  pub packet : IsPacket p
+  pub padding : 0 < length rest → NoPadding p
+
+module _ (p rest : List ℕ) (header : 4 ≤ length p) where
+  -- a header is read in its packet alone
+  front-octet : (i : ℕ) → i < 4 → getD (p ++ rest) i 0 ≡ getD p i 0
+  front-octet i l = List·getD-append p rest 0 i (omega arith)
+
+  front-length : lengthOf (p ++ rest) ≡ lengthOf p
+  front-length = rw (front16 p rest 2 (omega arith))
+
+-- such a packet is found
+pub front-packet : (p rest : List ℕ) (at : ℕ) → PacketBefore p rest → Packet (placedAt at p) ≡ frontOf (p ++ rest) at
+front-packet p rest at b =
+    let h : 4 ≤ length p = b .packet .header in
+    let o : getD (p ++ rest) 0 0 ≡ getD p 0 0 = front-octet p rest h 0 (omega arith) in
+    let w : lengthOf (p ++ rest) ≡ length p = front-length p rest h ∙ b .packet .words in
+    let l : length (p ++ rest) ≡ length p + length rest = length-append p rest in
+    let same : placedAt at p ≡ packetHere (p ++ rest) at = rw (o, front-octet p rest h 1 (omega arith), w) in
+    let v : versionOf (p ++ rest) ≡ 2 = rw o (b .packet .version) in
+    rw same (
+    split-eq (length rest) 0 (λ e. front-last (p ++ rest) at (omega arith) v (omega arith) (omega arith))
+    (λ n. front-unpadded (p ++ rest) at (omega arith) v (omega arith) (rw o (b .padding (omega arith))))
+    )
+
+-- what is found is such a packet
+pub found-before : (rest : List ℕ) → FoundPacket rest → PacketBefore (take (lengthOf rest) rest) (drop (lengthOf rest) rest)
+found-before rest f =
+    let p : List ℕ = take (lengthOf rest) rest in
+    let joined : p ++ drop (lengthOf rest) rest ≡ rest = take-append-drop (lengthOf rest) rest in
+    let l : length p ≡ lengthOf rest = length-take-le (lengthOf rest) rest (f .room) in
+    let h : 4 ≤ length p = omega arith in
+    let o : getD rest 0 0 ≡ getD p 0 0 = ap (λ (r : List ℕ). getD r 0 0) (sym joined) ∙ front-octet p (drop (lengthOf rest) rest) h 0 (omega arith) in
+    let w : lengthOf rest ≡ lengthOf p = ap (λ (r : List ℕ). lengthOf r) (sym joined) ∙ front-length p (drop (lengthOf rest) rest) h in
+    record {
+      packet = record { header = h; version = rw (← o) (f .version); words = sym w ∙ sym l };
+      padding = λ m. rw (← o) (f .padding (omega (arith, length-drop (lengthOf rest) rest)));
+    }
+
+-- a fault takes octets, and no packet is found there
+pub fault-octets : {rest : List ℕ} → NoPacketIn rest → 0 < length rest
+fault-octets (NoPacketIn.fewOctets m l) = m
+fault-octets (NoPacketIn.otherVersion h v) = omega arith
+fault-octets (NoPacketIn.pastTheEnd h l) = omega arith
+fault-octets (NoPacketIn.paddedInside h l p) = omega arith
+
+found-no-fault : {rest : List ℕ} → NoPacketIn rest → FoundPacket rest → ⊥
+found-no-fault (NoPacketIn.fewOctets m l) f = omega arith
+found-no-fault (NoPacketIn.otherVersion h v) f = v (f .version)
+found-no-fault (NoPacketIn.pastTheEnd h l) f = omega arith
+found-no-fault (NoPacketIn.paddedInside h l p) f = p (f .padding l)
+
+pub front-none : (rest : List ℕ) (at : ℕ) → NoPacketIn rest → Broken ≡ frontOf rest at
+front-none rest at n =
+    front-cases (λ k. Broken ≡ k) rest at (λ e. absurd (omega (arith, fault-octets n))) (λ m. refl) (λ f. absurd (found-no-fault n f))
 
 -- ---- at an offset
 

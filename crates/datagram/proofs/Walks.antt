@@ -1,13 +1,14 @@
 -- The walk over a datagram, a step at a time. Assumes nothing.
 use Prim.Native.Nat.{ℕ, zero, suc, _+_, _≤_}
-use mathlib.Core.Path.{_≡_, refl, ap, subst, _∙_}
-use mathlib.Core.List.{List, [], _∷_}
+use mathlib.Core.Path.{_≡_, refl, ap, _∙_}
+use mathlib.Core.List.{List, []}
 use native.Mathlib.Omega.{arith}
-use lib.ListN.{length}
+use lib.ListN.{length, drop}
+use Rattle.datagram.specs.Datagram.{NoPacketIn}
 use Rattle.datagram.specs.Walk.{packetAt, Parsed, packets, broken, inFront, behind, onward, walk, packetsFrom}
 use Rattle.datagram.specs.declared.RtcpPacket.{RtcpPacket}
 use Rattle.datagram.specs.declared.PacketStep.{PacketStep}
-use Rattle.datagram.proofs.Steps.{step-end, found-more}
+use Rattle.datagram.proofs.Steps.{step-end, ended, no-packet, found-more}
 use Rattle.datagram.specs.declared.PacketStep.the-variants.{Packet, End, Broken}
 
 module _ (s : List ℕ) where
@@ -41,3 +42,22 @@ module _ (s : List ℕ) where
 
     pub walk-broken : k ≡ Broken → packetsFrom s at ≡ broken
     walk-broken e = walk-step at ∙ rw (← is, e)
+
+-- To show P of every walk over a datagram, show it at the end, at octets that are no packet, and with a packet in front.
+module _ (s : List ℕ) (P : ℕ → Parsed → Type 0) (end : (at : ℕ) → length s ≤ at → P at (packets []))
+    (none : (at : ℕ) → NoPacketIn (drop at s) → P at broken)
+    (more : (at : ℕ) (p : RtcpPacket) (w : Parsed) → packetAt s at ≡ Packet p → P (behind p) w → P at (inFront p w)) where
+  walk-ind-by : (n at : ℕ) → length s ≤ n + at → P at (walk n s at)
+  unfolding walk
+  walk-ind-by zero at l = end at (omega arith)
+  walk-ind-by (suc n) at l =
+      by-step (packetAt s at) refl (λ p f. walk-ind-by n (behind p) (omega (arith, found-more s at p f)))
+    where
+      by-step : (k : PacketStep) → packetAt s at ≡ k → ((p : RtcpPacket) → packetAt s at ≡ Packet p → P (behind p) (walk n s (behind p)))
+          → P at (onward k (λ i. walk n s i))
+      by-step (Packet p) f rest = more at p (walk n s (behind p)) f (rest p f)
+      by-step End f rest = end at (ended s at f)
+      by-step Broken f rest = none at (no-packet s at f)
+
+  pub walk-ind : (at : ℕ) → P at (packetsFrom s at)
+  walk-ind at = walk-ind-by (length s) at (omega arith)

@@ -1,0 +1,223 @@
+-- Rules: "Datagram". The walk finds just the packets of a datagram, and is broken just where octets
+-- are no datagram. Assumes nothing.
+use Prim.Native.Nat.{ℕ, _+_, _≤_}
+use mathlib.Core.Path.{_≡_, refl, sym, ap, subst, _∙_}
+use mathlib.Core.List.{List, [], _∷_, _++_, map, flatten, dropLast, append-assoc}
+use native.Mathlib.Omega.{arith}
+use lib.ListN.{length, take, drop, replicate, length-append, length-map, length-drop, length-replicate, take-append-drop, drop-of-length-le}
+use lib.Seq.{drop-drop, drop-at, take-at, drop-append-seam}
+use Rattle.lists.specs.All.{All}
+use Rattle.lists.proofs.Cases.{never}
+use Rattle.lists.proofs.Kept.{kept-map}
+use Rattle.packet_header.specs.Header.{typeOf, formatOf, lengthOf}
+use Rattle.datagram.specs.Datagram.{IsPacket, NoPadding, Holds, NoPacketIn, FaultIn, placedAt, placed}
+use Rattle.datagram.specs.Feedback.{isFeedback, feedbackOf, feedbackIn}
+use Rattle.datagram.specs.Walk.{packetAt, packetOctets, Parsed, packets, broken, inFront, behind, packetsFrom, packetsOf}
+use Rattle.datagram.specs.declared.RtcpPacket.{RtcpPacket}
+use Rattle.datagram.specs.declared.PacketStep.the-variants.{Packet, End, Broken}
+use Rattle.datagram.proofs.Steps.{PacketBefore, front-packet, front-none, found, found-before, fault-octets, step-end}
+use Rattle.datagram.proofs.Walks.{walk-packet, walk-end, walk-broken, walk-ind}
+
+-- ---- a packet in front of a datagram, and in front of a fault
+
+module _ (p : List ℕ) where
+  holds-before : (rest : List ℕ) (ps : List (List ℕ)) → PacketBefore p rest → Holds rest ps → Holds (p ++ rest) (p ∷ ps)
+  unfolding flatten
+  holds-before rest ps b h =
+      record { joined = ap (λ r. p ++ r) (h .joined); each = (b .packet, h .each); padding = unpadded ps (h .joined) (h .each) (h .padding) }
+    where
+      unpadded : (qs : List (List ℕ)) → flatten qs ≡ rest → All IsPacket qs → All NoPadding (dropLast qs) → All NoPadding (dropLast (p ∷ qs))
+      unpadded [] j e n = tt
+      unpadded (q ∷ qs) j e n = (b .padding (omega (arith, length-append q (flatten qs), ap length j, e .0 .header)), n)
+
+  holds-first : (s : List ℕ) (ps : List (List ℕ)) → Holds s (p ∷ ps) → PacketBefore p (flatten ps) × Holds (flatten ps) ps
+  unfolding flatten
+  holds-first s [] h = (record { packet = h .each .0; padding = λ l. absurd (omega arith) }, record { joined = refl; each = tt; padding = tt })
+  holds-first s (q ∷ ps) h =
+      (record { packet = h .each .0; padding = λ l. h .padding .0 }, record { joined = refl; each = h .each .1; padding = h .padding .1 })
+
+  fault-before : (rest : List ℕ) → PacketBefore p rest → FaultIn rest → FaultIn (p ++ rest)
+  unfolding flatten
+  fault-before rest b f =
+      let l : length (flatten (f .before)) + length (f .rest) ≡ length rest = sym (length-append (flatten (f .before)) (f .rest)) ∙ ap length (f .joined) in
+      record {
+        before = p ∷ f .before;
+        rest = f .rest;
+        joined = append-assoc p (flatten (f .before)) (f .rest) ∙ ap (λ r. p ++ r) (f .joined);
+        each = (b .packet, f .each);
+        padding = (b .padding (omega (arith, fault-octets (f .fault))), f .padding);
+        fault = f .fault;
+      }
+
+-- ---- a packet at an offset
+
+module _ (s : List ℕ) (at : ℕ) (p rest : List ℕ) (here : p ++ rest ≡ drop at s) where
+  octets-at : packetOctets s (placedAt at p) ≡ p
+  octets-at = rw (← here) (take-at p rest (length p) refl)
+
+  drop-behind : drop (at + length p) s ≡ rest
+  drop-behind = sym (drop-drop (length p) at s) ∙ rw (← here) (drop-append-seam p rest)
+
+  module _ (before : PacketBefore p rest) where
+    step-packet : Packet (placedAt at p) ≡ packetAt s at
+    unfolding packetAt
+    step-packet = rw (← here) (front-packet p rest at before)
+
+    walk-first : packetsFrom s at ≡ inFront (placedAt at p) (packetsFrom s (at + length p))
+    walk-first = walk-packet s at (Packet (placedAt at p)) step-packet (placedAt at p) refl
+
+-- ---- packets back to back, starting at an offset
+
+-- each stands where `placed` says
+octets-from : (s : List ℕ) (at : ℕ) (ps : List (List ℕ)) → flatten ps ≡ drop at s → map (packetOctets s) (placed at ps) ≡ ps
+unfolding flatten placed
+octets-from s at [] e = refl
+octets-from s at (p ∷ ps) e =
+    rw (octets-at s at p (flatten ps) e, octets-from s (at + length p) ps (sym (drop-behind s at p (flatten ps) e)))
+
+-- the walk finds them
+held-from : (s : List ℕ) (at : ℕ) (ps : List (List ℕ)) → Holds (drop at s) ps → packetsFrom s at ≡ packets (placed at ps)
+unfolding flatten placed
+held-from s at [] h = walk-end s at End (step-end s at (omega (arith, length-drop at s, ap length (h .joined)))) refl
+held-from s at (p ∷ ps) h =
+    let f = holds-first p (drop at s) ps h in
+    walk-first s at p (flatten ps) (h .joined) (f .0)
+    ∙ ap (inFront (placedAt at p)) (held-from s (at + length p) ps (rw (drop-behind s at p (flatten ps) (h .joined)) (f .1)))
+
+-- it is broken where a fault stands behind them
+fault-from : (s : List ℕ) (at : ℕ) (ps : List (List ℕ)) (rest : List ℕ) → flatten ps ++ rest ≡ drop at s → All IsPacket ps → All NoPadding ps
+    → NoPacketIn rest → packetsFrom s at ≡ broken
+unfolding flatten packetAt
+fault-from s at [] rest e i n f = walk-broken s at Broken (rw (← e) (front-none rest at f)) refl
+fault-from s at (p ∷ ps) rest e i n f =
+    let here : p ++ (flatten ps ++ rest) ≡ drop at s = sym (append-assoc p (flatten ps) rest) ∙ e in
+    walk-first s at p (flatten ps ++ rest) here (record { packet = i .0; padding = λ l. n .0 })
+    ∙ ap (inFront (placedAt at p)) (fault-from s (at + length p) ps rest (sym (drop-behind s at p (flatten ps ++ rest) here)) (i .1) (n .1) f)
+
+-- ---- what the walk finds
+
+-- the walk that starts at an offset found what is there
+abbrev Reads : List ℕ → ℕ → Parsed → Type 0
+Reads s at (packets bs) = Holds (drop at s) (map (packetOctets s) bs) × (placed at (map (packetOctets s) bs) ≡ bs)
+Reads s at broken = FaultIn (drop at s)
+
+reads-more : (s : List ℕ) (at : ℕ) (p rest : List ℕ) (w : Parsed) → p ++ rest ≡ drop at s → PacketBefore p rest
+    → Reads s (at + length p) w → Reads s at (inFront (placedAt at p) w)
+unfolding placed
+reads-more s at p rest (packets bs) e b h =
+    let held : Holds (p ++ rest) (p ∷ map (packetOctets s) bs) = holds-before p rest (map (packetOctets s) bs) b (rw (drop-behind s at p rest e) at (h .0)) in
+    rw (octets-at s at p rest e) (rw e at held, ap (λ r. placedAt at p ∷ r) (h .1))
+reads-more s at p rest broken e b f =
+    rw e at (fault-before p rest b (rw (drop-behind s at p rest e) at f))
+
+reads-end : (s : List ℕ) (at : ℕ) → length s ≤ at → Reads s at (packets [])
+unfolding flatten placed
+reads-end s at l = (record { joined = sym (drop-of-length-le s {i = at} l); each = tt; padding = tt }, refl)
+
+reads-fault : (s : List ℕ) (at : ℕ) → NoPacketIn (drop at s) → Reads s at broken
+unfolding flatten
+reads-fault s at n = record { before = []; rest = drop at s; joined = refl; each = tt; padding = tt; fault = n }
+
+reads : (s : List ℕ) (at : ℕ) → Reads s at (packetsFrom s at)
+reads s = walk-ind s (Reads s) (reads-end s) (reads-fault s) at-packet
+  where
+    at-packet : (at : ℕ) (b : RtcpPacket) (w : Parsed) → packetAt s at ≡ Packet b → Reads s (behind b) w → Reads s at (inFront b w)
+    at-packet at b w f h =
+        let size : ℕ = lengthOf (drop at s) in
+        let p : List ℕ = take size (drop at s) in
+        let rest : List ℕ = drop size (drop at s) in
+        let e : p ++ rest ≡ drop at s = take-append-drop size (drop at s) in
+        let before : PacketBefore p rest = found-before (drop at s) (found s at b f .0) in
+        let same : placedAt at p ≡ b = cc (step-packet s at p rest e before) in
+        subst (λ (x : RtcpPacket). Reads s (behind x) w → Reads s at (inFront x w)) same (reads-more s at p rest w e before) h
+
+-- ---- the rules
+
+module _ (s : List ℕ) (ps : List (List ℕ)) (held : Holds s ps) where
+  -- the walk finds the packets that a datagram holds
+  pub held-walked : packetsOf s ≡ packets (placed 0 ps)
+  held-walked = held-from s 0 ps held
+
+  -- each stands where `placed` says
+  pub held-octets : map (packetOctets s) (placed 0 ps) ≡ ps
+  held-octets = octets-from s 0 ps (held .joined)
+
+-- the datagram holds the packets that the walk finds, where it finds them
+pub walked-held : (s : List ℕ) (bs : List RtcpPacket) → packetsOf s ≡ packets bs
+    → Holds s (map (packetOctets s) bs) × (placed 0 (map (packetOctets s) bs) ≡ bs)
+walked-held s bs e = rw e at (reads s 0)
+
+-- a datagram can be read in one way
+pub held-once : (s : List ℕ) (ps qs : List (List ℕ)) → Holds s ps → Holds s qs → ps ≡ qs
+held-once s ps qs h k =
+    let e : placed 0 ps ≡ placed 0 qs = cc (held-walked s ps h, held-walked s qs k) in
+    sym (held-octets s ps h) ∙ rw e (held-octets s qs k)
+
+-- where the walk finds no datagram there is a fault, and so in reverse
+pub broken-fault : (s : List ℕ) → packetsOf s ≡ broken → FaultIn s
+broken-fault s e = rw e at (reads s 0)
+
+pub fault-broken : (s : List ℕ) → FaultIn s → packetsOf s ≡ broken
+fault-broken s f = fault-from s 0 (f .before) (f .rest) (f .joined) (f .each) (f .padding) (f .fault)
+
+-- it finds no datagram just where the octets hold no packets back to back
+pub broken-none : (s : List ℕ) → packetsOf s ≡ broken → (ps : List (List ℕ)) → Holds s ps → ⊥
+broken-none s e ps h = never (cc (held-walked s ps h))
+
+pub none-broken : (s : List ℕ) → ((ps : List (List ℕ)) → Holds s ps → ⊥) → packetsOf s ≡ broken
+none-broken s none = by-walk (packetsOf s) refl
+  where
+    by-walk : (w : Parsed) → packetsOf s ≡ w → w ≡ broken
+    by-walk (packets bs) e = absurd (none (map (packetOctets s) bs) (walked-held s bs e .0))
+    by-walk broken e = refl
+
+-- no octets are a datagram that holds no packets
+pub no-octets : Holds [] []
+unfolding flatten
+no-octets = record { joined = refl; each = tt; padding = tt }
+
+pub no-octets-only : (ps : List (List ℕ)) → Holds [] ps → ps ≡ []
+no-octets-only ps h = held-once [] ps [] h no-octets
+
+-- ---- packets lie within the datagram
+
+within-from : (n at : ℕ) (ps : List (List ℕ)) → at + length (flatten ps) ≤ n → All (λ b. behind b ≤ n) (placed at ps)
+unfolding flatten placed
+within-from n at [] l = tt
+within-from n at (p ∷ ps) l =
+    let e : length (p ++ flatten ps) ≡ length p + length (flatten ps) = length-append p (flatten ps) in
+    (omega arith, within-from n (at + length p) ps (omega arith))
+
+pub placed-within : (s : List ℕ) (ps : List (List ℕ)) → Holds s ps → All (λ b. behind b ≤ length s) (placed 0 ps)
+placed-within s ps h = within-from (length s) 0 ps (omega (arith, ap length (h .joined)))
+
+-- ---- the CCFB packets
+
+-- the test by the header that the walk read, and by the octets of the packet
+SameTest : List ℕ → RtcpPacket → Type 0
+SameTest s b = isFeedback (typeOf (packetOctets s b)) (formatOf (packetOctets s b)) ≡ isFeedback (b .«packet_type») (b .format)
+
+same-tests : (s : List ℕ) (at : ℕ) (ps : List (List ℕ)) → flatten ps ≡ drop at s → All (SameTest s) (placed at ps)
+unfolding flatten placed SameTest
+same-tests s at [] e = tt
+same-tests s at (p ∷ ps) e =
+    (rw (octets-at s at p (flatten ps) e), same-tests s (at + length p) ps (sym (drop-behind s at p (flatten ps) e)))
+
+feedback-from : (s : List ℕ) (at : ℕ) (ps : List (List ℕ)) → flatten ps ≡ drop at s
+    → map (packetOctets s) (feedbackOf (placed at ps)) ≡ feedbackIn ps
+unfolding SameTest
+feedback-from s at ps e =
+    kept-map (packetOctets s) (λ b. isFeedback (b .«packet_type») (b .format)) (λ p. isFeedback (typeOf p) (formatOf p)) (placed at ps)
+    (same-tests s at ps e)
+    ∙ ap feedbackIn (octets-from s at ps e)
+
+-- of the packets of a datagram, the walk finds the CCFB packets
+pub placed-feedback : (s : List ℕ) (ps : List (List ℕ)) → Holds s ps → map (packetOctets s) (feedbackOf (placed 0 ps)) ≡ feedbackIn ps
+placed-feedback s ps h = feedback-from s 0 ps (h .joined)
+
+-- where packets stand does not change how many are CCFB packets
+pub placed-count : (at : ℕ) (ps : List (List ℕ)) → length (feedbackOf (placed at ps)) ≡ length (feedbackIn ps)
+placed-count at ps =
+    let s : List ℕ = replicate at 0 ++ flatten ps in
+    sym (length-map (feedbackOf (placed at ps)) (packetOctets s))
+    ∙ ap length (feedback-from s at ps (sym (drop-at (replicate at 0) (flatten ps) at (length-replicate at 0))))
