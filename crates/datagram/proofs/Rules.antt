@@ -1,8 +1,8 @@
 -- Rules: "Datagram". The walk finds just the packets of a datagram, and is broken just where octets
 -- are no datagram. Assumes nothing.
-use Prim.Native.Nat.{ℕ, _+_, _≤_}
+use Prim.Native.Nat.{ℕ, _+_, _<_, _≤_}
 use mathlib.Core.Path.{_≡_, refl, sym, ap, subst, _∙_}
-use mathlib.Core.List.{List, [], _∷_, _++_, map, flatten, dropLast, append-assoc}
+use mathlib.Core.List.{List, [], _∷_, _++_, map, flatten, append-assoc}
 use native.Mathlib.Omega.{arith}
 use lib.ListN.{length, take, drop, replicate, length-append, length-map, length-drop, length-replicate, take-append-drop, drop-of-length-le}
 use lib.Seq.{drop-drop, drop-at, take-at, drop-append-seam}
@@ -23,12 +23,11 @@ use Rattle.datagram.proofs.Walks.{walk-packet, walk-end, walk-broken, w
 module _ (p : List ℕ) where
   holds-before : (rest : List ℕ) (ps : List (List ℕ)) → PacketBefore p rest → Holds rest ps → Holds (p ++ rest) (p ∷ ps)
   unfolding flatten
-  holds-before rest ps b h =
-      record { joined = ap (λ r. p ++ r) (h .joined); each = (b .packet, h .each); padding = unpadded ps (h .joined) (h .each) (h .padding) }
-    where
-      unpadded : (qs : List (List ℕ)) → flatten qs ≡ rest → All IsPacket qs → All NoPadding (dropLast qs) → All NoPadding (dropLast (p ∷ qs))
-      unpadded [] j e n = tt
-      unpadded (q ∷ qs) j e n = (b .padding (omega (arith, length-append q (flatten qs), ap length j, e .0 .header)), n)
+  holds-before rest [] b h = record { joined = ap (λ r. p ++ r) (h .joined); each = (b .packet, tt); padding = tt }
+  holds-before rest (q ∷ qs) b h =
+      let l : length q + length (flatten qs) ≡ length rest = sym (length-append q (flatten qs)) ∙ ap length (h .joined) in
+      let more : 0 < length rest = omega (arith, h .each .0 .header) in
+      record { joined = ap (λ r. p ++ r) (h .joined); each = (b .packet, h .each); padding = (b .padding more, h .padding) }
 
   holds-first : (s : List ℕ) (ps : List (List ℕ)) → Holds s (p ∷ ps) → PacketBefore p (flatten ps) × Holds (flatten ps) ps
   unfolding flatten
@@ -73,7 +72,7 @@ octets-from : (s : List ℕ) (at : ℕ) (ps : List (List ℕ)) → flatten ps �
 unfolding flatten placed
 octets-from s at [] e = refl
 octets-from s at (p ∷ ps) e =
-    rw (octets-at s at p (flatten ps) e, octets-from s (at + length p) ps (sym (drop-behind s at p (flatten ps) e)))
+    rw (octets-at s at p (flatten ps) e) (ap (λ r. p ∷ r) (octets-from s (at + length p) ps (sym (drop-behind s at p (flatten ps) e))))
 
 -- the walk finds them
 held-from : (s : List ℕ) (at : ℕ) (ps : List (List ℕ)) → Holds (drop at s) ps → packetsFrom s at ≡ packets (placed at ps)

@@ -11,7 +11,7 @@ use lib.Seq.{length-take-le}
 use Rattle.lists.proofs.Cases.{never, split-le, split-eq}
 use Rattle.octets.proofs.Parts.{front16}
 use Rattle.packet_header.specs.Header.{differ, versionOf, paddingOf, lengthOf}
-use Rattle.datagram.specs.Walk.{packetHere, paddedInside, frontOf, packetAt, behind}
+use Rattle.datagram.specs.Walk.{rtcpHeaderOctets, packetHere, paddedInside, frontOf, packetAt, behind}
 use Rattle.datagram.specs.Datagram.{IsPacket, NoPadding, NoPacketIn, placedAt}
 use Rattle.datagram.specs.declared.RtcpPacket.{RtcpPacket}
 use Rattle.datagram.specs.declared.PacketStep.{PacketStep}
@@ -21,20 +21,20 @@ module _ (rest : List ℕ) (at : ℕ) where
   pub front-end : length rest ≡ 0 → End ≡ frontOf rest at
   front-end h = simp (eq-eqb (length rest) 0 h)
 
-  pub front-few : 0 < length rest → length rest < 4 → Broken ≡ frontOf rest at
-  front-few h f = simp (ne-eqb (length rest) 0 (λ e. omega arith), lt-ltb (length rest) 4 f)
+  pub front-few : 0 < length rest → length rest < rtcpHeaderOctets → Broken ≡ frontOf rest at
+  front-few h f = simp (ne-eqb (length rest) 0 (λ e. omega arith), lt-ltb (length rest) rtcpHeaderOctets f)
 
-  module _ (header : 4 ≤ length rest) where
+  module _ (header : rtcpHeaderOctets ≤ length rest) where
     pub front-version : (versionOf rest ≡ 2 → ⊥) → Broken ≡ frontOf rest at
     front-version h =
-        simp (ne-eqb (length rest) 0 (λ e. omega arith), le-ltb (length rest) 4 header, ne-eqb (versionOf rest) 2 h)
+        simp (ne-eqb (length rest) 0 (λ e. omega arith), le-ltb (length rest) rtcpHeaderOctets header, ne-eqb (versionOf rest) 2 h)
 
     module _ (version : versionOf rest ≡ 2) where
       pub front-past : length rest < lengthOf rest → Broken ≡ frontOf rest at
       front-past h =
           simp (
             ne-eqb (length rest) 0 (λ e. omega arith),
-            le-ltb (length rest) 4 header,
+            le-ltb (length rest) rtcpHeaderOctets header,
             eq-eqb (versionOf rest) 2 version,
             lt-ltb (length rest) (lengthOf rest) h,
           )
@@ -44,7 +44,7 @@ module _ (rest : List ℕ) (at : ℕ) where
         front-fits =
             simp (
               ne-eqb (length rest) 0 (λ e. omega arith),
-              le-ltb (length rest) 4 header,
+              le-ltb (length rest) rtcpHeaderOctets header,
               eq-eqb (versionOf rest) 2 version,
               le-ltb (length rest) (lengthOf rest) fits,
             )
@@ -64,7 +64,7 @@ module _ (rest : List ℕ) (at : ℕ) where
 
 -- all that holds where a packet stands in front
 pub record FoundPacket (rest : List ℕ) : Type 0 where
-  pub header : 4 ≤ length rest
+  pub header : rtcpHeaderOctets ≤ length rest
   pub version : versionOf rest ≡ 2
   pub room : lengthOf rest ≤ length rest
   pub padding : lengthOf rest < length rest → paddingOf rest ≡ 0
@@ -74,14 +74,14 @@ pub front-cases : (P : PacketStep → Type 0) (rest : List ℕ) (at : ℕ) → (
     → (FoundPacket rest → P (Packet (packetHere rest at)))
     → P (frontOf rest at)
 front-cases P rest at end none packet =
-    split-le 4 (length rest)
+    split-le rtcpHeaderOctets (length rest)
     (λ h. split-eq (versionOf rest) 2
     (λ v. split-le (lengthOf rest) (length rest) (fitting h v) (λ l. subst P (front-past rest at h v l) (none (NoPacketIn.pastTheEnd h l))))
     (λ v. subst P (front-version rest at h v) (none (NoPacketIn.otherVersion h v))))
     (λ l. split-eq (length rest) 0 (λ e. subst P (front-end rest at e) (end e))
     (λ n. subst P (front-few rest at (omega arith) l) (none (NoPacketIn.fewOctets (omega arith) l))))
   where
-    fitting : 4 ≤ length rest → versionOf rest ≡ 2 → lengthOf rest ≤ length rest → P (frontOf rest at)
+    fitting : rtcpHeaderOctets ≤ length rest → versionOf rest ≡ 2 → lengthOf rest ≤ length rest → P (frontOf rest at)
     fitting h v f =
         split-eq (paddingOf rest) 0
         (λ p. subst P (front-unpadded rest at h v f p) (packet (record { header = h; version = v; room = f; padding = λ l. p })))
@@ -97,9 +97,9 @@ pub record PacketBefore (p rest : List ℕ) : Type 0 where
   pub packet : IsPacket p
   pub padding : 0 < length rest → NoPadding p
 
-module _ (p rest : List ℕ) (header : 4 ≤ length p) where
+module _ (p rest : List ℕ) (header : rtcpHeaderOctets ≤ length p) where
   -- a header is read in its packet alone
-  front-octet : (i : ℕ) → i < 4 → getD (p ++ rest) i 0 ≡ getD p i 0
+  front-octet : (i : ℕ) → i < rtcpHeaderOctets → getD (p ++ rest) i 0 ≡ getD p i 0
   front-octet i l = List·getD-append p rest 0 i (omega arith)
 
   front-length : lengthOf (p ++ rest) ≡ lengthOf p
@@ -108,16 +108,14 @@ module _ (p rest : List ℕ) (header : 4 ≤ length p) where
 -- such a packet is found
 pub front-packet : (p rest : List ℕ) (at : ℕ) → PacketBefore p rest → Packet (placedAt at p) ≡ frontOf (p ++ rest) at
 front-packet p rest at b =
-    let h : 4 ≤ length p = b .packet .header in
+    let h : rtcpHeaderOctets ≤ length p = b .packet .header in
     let o : getD (p ++ rest) 0 0 ≡ getD p 0 0 = front-octet p rest h 0 (omega arith) in
     let w : lengthOf (p ++ rest) ≡ length p = front-length p rest h ∙ b .packet .words in
     let l : length (p ++ rest) ≡ length p + length rest = length-append p rest in
     let same : placedAt at p ≡ packetHere (p ++ rest) at = rw (o, front-octet p rest h 1 (omega arith), w) in
     let v : versionOf (p ++ rest) ≡ 2 = rw o (b .packet .version) in
-    rw same (
-    split-eq (length rest) 0 (λ e. front-last (p ++ rest) at (omega arith) v (omega arith) (omega arith))
-    (λ n. front-unpadded (p ++ rest) at (omega arith) v (omega arith) (rw o (b .padding (omega arith))))
-    )
+    split-eq (length rest) 0 (λ e. ap Packet same ∙ front-last (p ++ rest) at (omega arith) v (omega arith) (omega arith))
+    (λ n. ap Packet same ∙ front-unpadded (p ++ rest) at (omega arith) v (omega arith) (rw o (b .padding (omega arith))))
 
 -- what is found is such a packet
 pub found-before : (rest : List ℕ) → FoundPacket rest → PacketBefore (take (lengthOf rest) rest) (drop (lengthOf rest) rest)
@@ -125,7 +123,7 @@ found-before rest f =
     let p : List ℕ = take (lengthOf rest) rest in
     let joined : p ++ drop (lengthOf rest) rest ≡ rest = take-append-drop (lengthOf rest) rest in
     let l : length p ≡ lengthOf rest = length-take-le (lengthOf rest) rest (f .room) in
-    let h : 4 ≤ length p = omega arith in
+    let h : rtcpHeaderOctets ≤ length p = omega arith in
     let o : getD rest 0 0 ≡ getD p 0 0 = ap (λ (r : List ℕ). getD r 0 0) (sym joined) ∙ front-octet p (drop (lengthOf rest) rest) h 0 (omega arith) in
     let w : lengthOf rest ≡ lengthOf p = ap (λ (r : List ℕ). lengthOf r) (sym joined) ∙ front-length p (drop (lengthOf rest) rest) h in
     record {
@@ -182,7 +180,7 @@ module _ (s : List ℕ) (at : ℕ) where
     found-size = ap (λ (x : RtcpPacket). x .size) (found .1)
 
     -- a packet has its header, and lies within the datagram
-    pub found-more : at + 4 ≤ behind p
+    pub found-more : at + rtcpHeaderOctets ≤ behind p
     found-more = omega (arith, found-at, found-size)
 
     pub found-within : behind p ≤ length s
