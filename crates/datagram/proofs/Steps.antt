@@ -76,7 +76,7 @@ pub front-cases : (P : PacketStep → Type 0) (rest : List ℕ) (at : ℕ) → (
 front-cases P rest at end none packet =
     split-le rtcpHeaderOctets (length rest)
     (λ h. split-eq (versionOf rest) 2
-    (λ v. split-le (lengthOf rest) (length rest) (fitting h v) (λ l. subst P (front-past rest at h v l) (none (NoPacketIn.pastTheEnd h l))))
+    (λ v. split-le (lengthOf rest) (length rest) (fitting h v) (λ l. subst P (front-past rest at h v l) (none (NoPacketIn.pastTheEnd h (omega arith)))))
     (λ v. subst P (front-version rest at h v) (none (NoPacketIn.otherVersion h v))))
     (λ l. split-eq (length rest) 0 (λ e. subst P (front-end rest at e) (end e))
     (λ n. subst P (front-few rest at (omega arith) l) (none (NoPacketIn.fewOctets (omega arith) l))))
