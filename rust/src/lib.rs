@@ -3,10 +3,10 @@
 //!
 //! - A receiver records what arrives in a [`Store`]. For each report a [`Reporter`] makes the
 //!   requests, and the store [writes](StoreOver::write) the packets.
-//! - A sender reads feedback as a [`Packet`].
+//! - A sender reads each received [`Datagram`], and the feedback in it as [`Packet`]s.
 //!
 //! ```
-//! use ccfb::{Mark, Metric, Packet, Refusal, Report, Reporter, Store, Time};
+//! use ccfb::{Datagram, Mark, Metric, Refusal, Report, Reporter, Store, Time};
 //!
 //! # fn main() -> Result<(), Refusal> {
 //! // The receiver: 65535 is lost. A real one takes its times from the clock, see `ntp_time`.
@@ -24,9 +24,12 @@
 //! reporter.reported(&requests);
 //!
 //! // The sender. The first report starts at the first arrival.
-//! let packet = Packet::read(sent)?;
-//! let block = packet.blocks().next().expect("a block");
-//! let metrics: Vec<_> = block.metrics().collect();
+//! let mut metrics = Vec::new();
+//! for packet in Datagram::read(sent)?.feedback() {
+//!     for block in packet?.blocks().filter(|block| block.ssrc() == 0x0a01) {
+//!         metrics.extend(block.metrics());
+//!     }
+//! }
 //! assert_eq!(
 //!     metrics,
 //!     [
@@ -50,9 +53,9 @@
 //! # What may be trusted
 //!
 //! What is recorded, written and read is decided by the library, whose behaviour is proved. Which
-//! numbers to report and the conversion of times are decided by this crate, and tested. Refusals
-//! of what the types here rule out (a mark above 3, an owned store of another shape) cannot
-//! happen, and no answer of the library makes the crate panic.
+//! numbers to report, the conversion of times and [`RtcpPacket::is_ccfb`] are decided by this
+//! crate, and tested. Refusals of what the types here rule out (a mark above 3, an owned store of
+//! another shape) cannot happen, and no answer of the library makes the crate panic.
 //!
 //! # Features
 //!
@@ -78,6 +81,7 @@ extern crate alloc;
 #[cfg(feature = "std")]
 extern crate std;
 
+mod datagram;
 mod limits;
 mod memory;
 mod metric;
@@ -91,6 +95,7 @@ mod stream;
 mod time;
 mod write;
 
+pub use datagram::{Datagram, FeedbackPackets, RtcpPacket, RtcpPackets};
 pub use limits::{room, CELLS_OF_A_PLACE, LIMITS, MOST_PLACES, MOST_REPORTS, MOST_REQUESTS};
 #[cfg(feature = "alloc")]
 pub use memory::Owned;

@@ -4,6 +4,9 @@ use crate::{raw, Metric, Refusal};
 
 /// A CCFB packet that was checked as a whole: a view of the received octets.
 ///
+/// [`Datagram::feedback`](crate::Datagram::feedback) finds the CCFB packets of a received datagram.
+/// To read octets that are one packet, call [`Packet::read`]:
+///
 /// ```
 /// use ccfb::{Mark, Metric, Packet, Refusal};
 ///

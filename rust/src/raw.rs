@@ -6,7 +6,7 @@
 #![allow(unsafe_code)]
 
 use crate::memory::{Words, WordsMut};
-use crate::{kind, Block, Mark, Metric, Refusal, Report, Request, Stream, Time};
+use crate::{kind, Block, Mark, Metric, Refusal, Report, Request, RtcpPacket, Stream, Time};
 
 // As in include/ccfb.h; a call writes its outputs through references.
 #[rustfmt::skip]
@@ -63,6 +63,15 @@ extern "C" {
     ) -> u8;
     fn ccfb_rewrite(
         packet: *const u8, len: usize, out: *mut u8, out_len: usize, written: &mut usize,
+    ) -> u8;
+    fn ccfb_feedback_count(datagram: *const u8, len: usize, count: &mut usize) -> u8;
+    fn ccfb_feedback(
+        datagram: *const u8, len: usize, k: usize,
+        packet_at: &mut usize, packet_length: &mut usize,
+    ) -> u8;
+    fn ccfb_next_packet(
+        datagram: *const u8, len: usize, at: &mut usize, packet_type: &mut u8, format: &mut u8,
+        packet_at: &mut usize, packet_length: &mut usize,
     ) -> u8;
 }
 
@@ -211,10 +220,9 @@ pub fn read(packet: &[u8]) -> Result<(u32, u32, usize), Refusal> {
     answer(refused, (sender, rts, blocks))
 }
 
-/// The octets from `at` on. Those that the library answers with are in the packet.
-fn part_of(packet: &[u8], at: usize, length: usize) -> Result<&[u8], Refusal> {
-    let from = packet.get(at..).unwrap_or_default();
-    from.get(..length).ok_or(Refusal::RunsIntoRts)
+/// So many octets from `at` on. A part that the library answers with is there.
+fn part_of(octets: &[u8], at: usize, length: usize) -> Option<&[u8]> {
+    octets.get(at..)?.get(..length)
 }
 
 pub fn block(packet: &[u8], k: usize) -> Result<Block<'_>, Refusal> {
@@ -228,7 +236,7 @@ pub fn block(packet: &[u8], k: usize) -> Result<Block<'_>, Refusal> {
     let refused =
         unsafe { ccfb_block_metrics(octets, len, k, &mut metrics_at, &mut metrics_length) };
     answer(refused, ())?;
-    let part = part_of(packet, metrics_at, metrics_length)?;
+    let part = part_of(packet, metrics_at, metrics_length).ok_or(Refusal::RunsIntoRts)?;
     Ok(Block { ssrc, begin, count, part })
 }
 
@@ -259,7 +267,8 @@ pub fn next_block<'a>(packet: &'a [u8], at: &mut usize) -> Result<Block<'a>, Ref
         ccfb_next_block(octets, len, at, &mut ssrc, &mut begin, &mut count, &mut metrics_at)
     };
     answer(refused, ())?;
-    let part = part_of(packet, metrics_at, 2 * usize::from(count))?;
+    let length = 2 * usize::from(count);
+    let part = part_of(packet, metrics_at, length).ok_or(Refusal::RunsIntoRts)?;
     Ok(Block { ssrc, begin, count, part })
 }
 
@@ -305,18 +314,56 @@ pub fn rewrite(packet: &[u8], out: &mut [u8]) -> Result<usize, Refusal> {
     answer(refused, written)
 }
 
+/// How many CCFB packets a datagram holds.
+pub fn feedback_count(datagram: &[u8]) -> Result<usize, Refusal> {
+    let mut count = 0;
+    // SAFETY: the pointer is passed with the length of its slice; the other is a reference.
+    let refused = unsafe { ccfb_feedback_count(datagram.as_ptr(), datagram.len(), &mut count) };
+    answer(refused, count)
+}
+
+/// The octets of CCFB packet k of a datagram.
+pub fn feedback(datagram: &[u8], k: usize) -> Result<&[u8], Refusal> {
+    let (octets, len) = (datagram.as_ptr(), datagram.len());
+    let (mut packet_at, mut packet_length) = (0, 0);
+    // SAFETY: the pointer is passed with the length of its slice; the others are references.
+    let refused = unsafe { ccfb_feedback(octets, len, k, &mut packet_at, &mut packet_length) };
+    answer(refused, ())?;
+    part_of(datagram, packet_at, packet_length).ok_or(Refusal::BadDatagram)
+}
+
+/// The packet of any type at `at`, which moves past it.
+pub fn next_packet<'a>(datagram: &'a [u8], at: &mut usize) -> Result<RtcpPacket<'a>, Refusal> {
+    let (octets, len) = (datagram.as_ptr(), datagram.len());
+    let (mut packet_type, mut format, mut packet_at, mut packet_length) = (0, 0, 0, 0);
+    // SAFETY: the pointer is passed with the length of its slice; the others are references.
+    let refused = unsafe {
+        ccfb_next_packet(
+            octets,
+            len,
+            at,
+            &mut packet_type,
+            &mut format,
+            &mut packet_at,
+            &mut packet_length,
+        )
+    };
+    answer(refused, ())?;
+    let octets = part_of(datagram, packet_at, packet_length).ok_or(Refusal::BadDatagram)?;
+    Ok(RtcpPacket { packet_type, format, octets })
+}
+
 #[cfg(test)]
 mod tests {
     use super::{answer, metric_of, part_of};
-    use crate::Refusal;
 
     /// The library gives none of these answers.
     #[test]
     fn no_answer_panics() {
         for (at, length) in [(0, 5), (4, 1), (5, 1), (usize::MAX, 1), (1, usize::MAX)] {
-            assert_eq!(part_of(&[1, 2, 3, 4], at, length), Err(Refusal::RunsIntoRts));
+            assert_eq!(part_of(&[1, 2, 3, 4], at, length), None);
         }
-        assert_eq!(part_of(&[1, 2, 3, 4], 1, 3), Ok([2, 3, 4].as_slice()));
+        assert_eq!(part_of(&[1, 2, 3, 4], 1, 3), Some([2, 3, 4].as_slice()));
         for number in 0..=u8::MAX {
             assert_eq!(answer(number, ()).is_ok(), number == 0);
             metric_of(number, number, u16::MAX);
