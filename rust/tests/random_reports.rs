@@ -1,31 +1,18 @@
 //! A million arrivals and reports: the first report on a stream starts at the oldest number that
 //! arrived, no later one starts before it, no number is left out, and no request is refused.
 
+#[path = "common/random.rs"]
+mod random;
+
 use ccfb::{
     Mark, Packet, Refusal, Report, Reporter, Requests, StoreIn, Time, CELLS_OF_A_PLACE, LIMITS,
 };
+use random::Random;
 use std::collections::{BTreeSet, HashMap};
 
 const STEPS: usize = 1_000_000;
 const PLACES: usize = 4;
 const WINDOW: u64 = CELLS_OF_A_PLACE as u64;
-
-/// The splitmix64 generator.
-struct Random(u64);
-
-impl Random {
-    fn below(&mut self, bound: u64) -> u64 {
-        self.0 = self.0.wrapping_add(0x9e37_79b9_7f4a_7c15);
-        let mut word = self.0;
-        word = (word ^ (word >> 30)).wrapping_mul(0xbf58_476d_1ce4_e5b9);
-        word = (word ^ (word >> 27)).wrapping_mul(0x94d0_49bb_1331_11eb);
-        (word ^ (word >> 31)) % bound
-    }
-
-    fn one_in(&mut self, many: u64) -> bool {
-        self.below(many) == 0
-    }
-}
 
 /// What is known of a stream since it took its place. Its numbers are counted on without wrapping.
 struct History {

@@ -4,7 +4,7 @@
 
 mod common;
 
-use ccfb::{rewrite, Mark, Packet, Refusal, Report, Request, Time};
+use ccfb::{rewrite, Datagram, Mark, Packet, Refusal, Report, Request, Time};
 use common::store_with;
 
 /// A packet of one block of four numbers.
@@ -92,6 +92,48 @@ fn by_the_questions() {
     assert_eq!(packet.metric(1, 0), Err(Refusal::NoBlock));
     assert_eq!(packet.metric(0, 4), Err(Refusal::NoNumber));
     assert_eq!(packet.block(0).and_then(|block| block.metric(4)), Err(Refusal::NoNumber));
+}
+
+#[test]
+fn by_the_datagram() {
+    const BYE: [u8; 4] = [0x80, 203, 0, 0];
+    let cases: [&[u8]; 8] = [
+        &BYE[..1],
+        &BYE[..3],
+        &[0x40, 203, 0, 0],
+        &[0xc0, 203, 0, 0],
+        &[0x80, 203, 0, 1],
+        &[0x80, 203, 0xff, 0xff],
+        &[0xa0, 203, 0, 0, 0x80, 203, 0, 0],
+        &with(&[(3, 5)]),
+    ];
+    for octets in cases {
+        assert_eq!(Datagram::read(octets), Err(Refusal::BadDatagram));
+        assert_eq!(Datagram::read(&[&BYE, octets].concat()), Err(Refusal::BadDatagram));
+        // The feedback in front is not handed out.
+        assert_eq!(Datagram::read(&[&PACKET, octets].concat()), Err(Refusal::BadDatagram));
+    }
+}
+
+#[test]
+fn by_the_feedback_of_a_datagram() {
+    let cases: [(&[u8], Refusal); 8] = [
+        (&[], Refusal::NoPacket),
+        (&with(&[(0, 0x8a)]), Refusal::NoPacket),
+        (&with(&[(1, 206)]), Refusal::NoPacket),
+        (&[0x8b, 205, 0, 0], Refusal::PacketTooShort),
+        (&with(&[(0, 0xab), (15, 5)]), Refusal::Padded),
+        (&with(&[(15, 5)]), Refusal::RunsIntoRts),
+        (&with(&[(14, 0x40), (15, 1)]), Refusal::TooManyReports),
+        (&with(&[(15, 3)]), Refusal::FillerNotZero),
+    ];
+    for (octets, refusal) in cases {
+        let octets = [&PACKET, octets].concat();
+        let datagram = Datagram::read(&octets).expect("a datagram");
+        assert!(datagram.feedback_packet(0).is_ok());
+        assert_eq!(datagram.feedback_packet(1), Err(refusal));
+        assert_eq!(datagram.feedback_packet(2), Err(Refusal::NoPacket));
+    }
 }
 
 #[test]
