@@ -5,7 +5,7 @@
 //! The standard library does not tell the ECN field of a datagram: here it counts as not-ECT.
 //! examples/wire.c, beside this crate, takes it and the time of arrival from the kernel.
 
-use ccfb::{ntp_time, Mark, Metric, Packet, Refusal, Report, Reporter, Store, Time};
+use ccfb::{ntp_time, Block, Datagram, Mark, Metric, Report, Reporter, Store, Time};
 use std::error::Error;
 use std::io::{self, ErrorKind};
 use std::net::{Ipv4Addr, UdpSocket};
@@ -86,21 +86,29 @@ fn send_rtp(camera: &UdpSocket, number: u16) -> io::Result<()> {
     camera.send(&packet).map(|_| ())
 }
 
-/// Prints what a feedback packet says of the camera's stream.
-fn print_report(octets: &[u8]) -> Result<(), Refusal> {
-    for block in Packet::read(octets)?.blocks().filter(|block| block.ssrc() == CAMERA) {
-        let missing = block.metrics().filter(|(_, metric)| *metric == Metric::NotReceived).count();
-        let (begin, count) = (block.begin(), block.count());
-        println!("starting at {begin}: {count} numbers, {missing} missing");
+/// Prints what the feedback in a datagram says of the camera's stream.
+fn print_reports(datagram: Datagram) {
+    for packet in datagram.feedback() {
+        match packet {
+            Ok(packet) => packet.blocks().filter(|b| b.ssrc() == CAMERA).for_each(print_block),
+            Err(refusal) => eprintln!("camera: {refusal}"),
+        }
     }
-    Ok(())
 }
 
+fn print_block(block: Block) {
+    let missing = block.metrics().filter(|(_, metric)| *metric == Metric::NotReceived).count();
+    let (begin, count) = (block.begin(), block.count());
+    println!("starting at {begin}: {count} numbers, {missing} missing");
+}
+
+/// Reads every datagram that has come. Other RTCP packets in it are passed over.
 fn read_reports(camera: &UdpSocket) -> io::Result<()> {
     let mut datagram = [0; DATAGRAM];
     while let Some(len) = received(camera, &mut datagram)? {
-        if let Err(refusal) = print_report(&datagram[..len]) {
-            eprintln!("camera: {refusal}");
+        match Datagram::read(&datagram[..len]) {
+            Ok(datagram) => print_reports(datagram),
+            Err(refusal) => eprintln!("camera: {refusal}"),
         }
     }
     Ok(())
