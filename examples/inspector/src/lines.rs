@@ -1,11 +1,11 @@
 //! The lines of the input.
 
-use crate::{hex, show, strip};
-use ccfb::{Packet, Refusal};
+use crate::{datagram, hex, strip, walk};
+use ccfb::{Datagram, Packet, Refusal};
 use std::io::{self, BufRead, Write};
 
 /// Shows every line that is not empty, under its number from 1, and gives each accepted packet to
-/// `take`. The legend of the strips comes before the first packet that has one.
+/// `take`. The legend of the strips comes before the first datagram that has one.
 pub fn inspect(
     input: impl BufRead,
     mut output: impl Write,
@@ -20,13 +20,14 @@ pub fn inspect(
         }
         let mut octets = Vec::new();
         match read(line, &mut octets) {
-            Ok(packet) => {
-                if legend_due && has_numbers(&packet) {
+            Ok(datagram) => {
+                let accepted = datagram.feedback().flatten();
+                if legend_due && accepted.clone().any(|packet| has_numbers(&packet)) {
                     writeln!(output, "{}", strip::LEGEND)?;
                     legend_due = false;
                 }
-                writeln!(output, "line {number}: {}", show::packet(&packet))?;
-                take(&packet);
+                writeln!(output, "line {number}: {}", datagram::readable(&datagram))?;
+                accepted.for_each(|packet| take(&packet));
             }
             Err(fault) => writeln!(output, "line {number}: {fault}")?,
         }
@@ -34,13 +35,16 @@ pub fn inspect(
     output.flush()
 }
 
-/// The packet of a line, read from its octets. The error says in words why there is none.
-fn read<'a>(line: &[u8], octets: &'a mut Vec<u8>) -> Result<Packet<'a>, String> {
+/// The datagram of a line, read from its octets. The error says in words why there is none.
+fn read<'a>(line: &[u8], octets: &'a mut Vec<u8>) -> Result<Datagram<'a>, String> {
     if let Some(refusal) = refused_file(line) {
         return Err(format!("ccfbline {refusal}"));
     }
     *octets = hex::octets(line).map_err(|fault| format!("not hex: {fault}"))?;
-    Packet::read(octets).map_err(|refusal| format!("{} octets, {refusal}", octets.len()))
+    Datagram::read(octets).map_err(|refusal| {
+        let fault = walk::fault(octets).map_or(String::new(), |fault| format!("\n  {fault}"));
+        format!("{} octets, {refusal}{fault}", octets.len())
+    })
 }
 
 /// The refusal in the line `refused N`, which `ccfbline` prints for a bad arrival file.
@@ -83,12 +87,29 @@ mod tests {
     }
 
     #[test]
+    fn the_packets_of_a_datagram_are_taken_one_by_one() {
+        let (text, taken) = shown(&format!("80cb0000 {ONE_LOST} 8bcd0000 {NO_BLOCK}\n"));
+        assert_eq!(taken, 2);
+        assert!(text.starts_with(strip::LEGEND));
+        assert!(text.contains("\nline 1: 44 octets, 4 packets\n  BYE (type 203), 4 octets\n"));
+    }
+
+    #[test]
     fn a_refused_packet_is_not_taken() {
-        let (text, taken) = shown("8bcd\nrefused 13\nrefused 99\n");
+        let (text, taken) = shown("8bcd0000\nrefused 13\nrefused 99\n");
         assert_eq!(taken, 0);
         let lines: Vec<&str> = text.lines().collect();
-        assert_eq!(lines[0], "line 1: 2 octets, refused 21: packet shorter than 12 octets");
+        assert_eq!(lines[0], "line 1: 4 octets, refused 21: packet shorter than 12 octets");
         assert!(lines[1].starts_with("line 2: ccfbline refused 13: "));
         assert_eq!(lines[2], "line 3: not hex: 'r' in column 1");
+    }
+
+    #[test]
+    fn nothing_is_taken_of_octets_that_are_no_datagram() {
+        let (text, taken) = shown(&format!("{ONE_LOST} 80cb\n"));
+        assert_eq!(taken, 0);
+        let fault = "at octet 24: a header has 4 octets, 2 left";
+        let refused = "refused 31: octets are not RTCP packets back to back";
+        assert_eq!(text, format!("line 1: 26 octets, {refused}\n  {fault}\n"));
     }
 }

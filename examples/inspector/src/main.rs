@@ -1,7 +1,9 @@
-//! Reads lines of hex from standard input, a CCFB packet each, as `ccfbline` prints them, and
-//! shows each packet in readable form, or why it is refused. The time in a cell is how long
-//! before RTS that number arrived. With `--svg FILE` it also draws the packets.
+//! Reads lines of hex from standard input, an RTCP datagram each: a CCFB packet as `ccfbline`
+//! prints it, or several packets of any types. Shows each CCFB packet in readable form, or why it
+//! is refused, and other packets in a line each. The time in a cell is how long before RTS that
+//! number arrived. With `--svg FILE` it also draws the CCFB packets.
 
+mod datagram;
 mod element;
 mod hex;
 mod lines;
@@ -12,6 +14,7 @@ mod scale;
 mod show;
 mod streams;
 mod strip;
+mod walk;
 
 use options::Asked;
 use std::io::{self, Write};

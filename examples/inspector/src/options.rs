@@ -7,11 +7,11 @@ use std::path::PathBuf;
 pub const HELP: &str = "\
 usage: inspector [--svg FILE] <LINES
 
-Reads lines of hex from standard input, a CCFB packet each, and shows each packet in readable
-form, or why it is refused.
+Reads lines of hex from standard input, an RTCP datagram each: one packet, or several back to back.
+Shows each CCFB packet in readable form, or why it is refused, and other packets in a line each.
 
-  --svg FILE  also draw the packets into FILE: the delay before RTS over the sequence number, with
-              losses and CE marks, one panel for each stream
+  --svg FILE  also draw the CCFB packets into FILE: the delay before RTS over the sequence number,
+              with losses and CE marks, one panel for each stream
   --help      print this text
 
 Exit status: 0; 1 if standard input, standard output or FILE fails; 2 if an argument is wrong.

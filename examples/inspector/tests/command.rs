@@ -87,10 +87,23 @@ fn all_is_drawn_though_nobody_reads_the_text() {
 #[test]
 fn a_refused_packet_is_not_drawn() {
     let file = fresh("refused.svg");
-    let output = run(&["--svg", file.to_str().expect("plain text")], "8bcd\n");
+    let output = run(&["--svg", file.to_str().expect("plain text")], "8bcd0000\n");
     assert_eq!(
         said(&output.stdout),
-        "line 1: 2 octets, refused 21: packet shorter than 12 octets\n"
+        "line 1: 4 octets, refused 21: packet shorter than 12 octets\n"
     );
     assert!(fs::read_to_string(file).expect("a drawing").contains(">No CCFB packet<"));
+}
+
+#[test]
+fn the_feedback_of_a_compound_datagram_is_drawn() {
+    let file = fresh("compound.svg");
+    let report_and_name = "80c90001000000f1 81ca0003000000f10103626f78000000";
+    let arguments = ["--svg", file.to_str().expect("plain text")];
+    let output = run(&arguments, &format!("{report_and_name} {PACKET}"));
+    assert_eq!(output.status.code(), Some(0));
+    let text = said(&output.stdout);
+    assert!(text.contains("\nline 1: 52 octets, 3 packets\n  RR (type 201), 8 octets\n"));
+    assert!(text.contains("\n  CCFB (type 205, FMT 11), 28 octets from 000000f1"));
+    assert!(fs::read_to_string(file).expect("a drawing").contains(">1 CCFB packet on 1 stream<"));
 }
