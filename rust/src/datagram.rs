@@ -9,9 +9,8 @@ const CCFB_FORMAT: u8 = 11;
 
 /// A received datagram, checked as a whole: RTCP packets back to back, of any types.
 ///
-/// Feedback may share a datagram with other packets. A compound packet (RFC 3550) starts with a
-/// sender or receiver report; a reduced-size one (RFC 5506) may start with any packet. Here any
-/// packet may come first.
+/// Any packet may come first: a compound datagram starts with a report (RFC 3550), a reduced-size
+/// one need not (RFC 5506).
 ///
 /// ```
 /// use ccfb::{Datagram, Refusal};
@@ -28,7 +27,7 @@ const CCFB_FORMAT: u8 = 11;
 /// for packet in datagram.feedback() {
 ///     match packet {
 ///         Ok(packet) => println!("{} blocks, RTS {:08x}", packet.blocks().len(), packet.rts()),
-///         Err(refusal) => eprintln!("{refusal}"), // the other packets can be read all the same
+///         Err(refusal) => eprintln!("{refusal}"),
 ///     }
 /// }
 /// # Ok::<(), Refusal>(())
@@ -40,16 +39,16 @@ pub struct Datagram<'a> {
 }
 
 impl<'a> Datagram<'a> {
-    /// Checks the headers of all packets. The octets may be any; none at all hold no packet.
+    /// Checks the headers of all packets of a datagram, which may be any octets. No octets hold no
+    /// packet.
     ///
-    /// Where RTP shares the port, tell RTCP by its second octet first (RFC 5761). SRTCP has to be
-    /// decrypted first.
+    /// If RTP shares the port, sort it out first: the second octet of RTCP is 192 to 223 (RFC
+    /// 5761). SRTCP must be authenticated and decrypted first.
     ///
     /// # Errors
     ///
-    /// [`Refusal::BadDatagram`] if a packet is not of version 2, if the octets end before it does
-    /// (its length is in its header, which has 4 octets), or if it has the padding flag set and
-    /// is not the last one.
+    /// [`Refusal::BadDatagram`] if fewer than 4 octets are left for a packet, its version is not 2,
+    /// its length field goes past the end, or its padding flag is set and it is not the last.
     ///
     /// ```
     /// use ccfb::{Datagram, Refusal};
@@ -100,7 +99,8 @@ impl<'a> Datagram<'a> {
         RtcpPackets { datagram: self.octets, at: 0 }
     }
 
-    /// The CCFB packets, in one pass, each read by [`Packet::read`] or with its refusal.
+    /// The CCFB packets, in one pass: what [`Packet::read`] answers for each. A refused one does
+    /// not hide the next, and `flatten()` leaves it out.
     ///
     /// ```
     /// use ccfb::{Datagram, Refusal};
@@ -150,7 +150,7 @@ impl<'a> TryFrom<&'a [u8]> for Datagram<'a> {
     }
 }
 
-/// An RTCP packet of any type, as its header tells it: what it says was not looked at.
+/// An RTCP packet of any type. Only its header was checked.
 ///
 /// ```
 /// use ccfb::{Datagram, Packet, Refusal};
