@@ -65,7 +65,7 @@ extern "C" {
 #define CCFB_FILLER_NOT_ZERO 28  /* filler is not zero */
 #define CCFB_NO_BLOCK 29         /* no such report block */
 #define CCFB_NO_NUMBER 30        /* no such sequence number in the block */
-#define CCFB_BAD_DATAGRAM 31     /* datagram is not RTCP packets back to back */
+#define CCFB_BAD_DATAGRAM 31     /* octets are not RTCP packets back to back */
 #define CCFB_NO_PACKET 32        /* no such packet in the datagram */
 
 /* ---- Metrics: what feedback says of one sequence number */
@@ -398,7 +398,7 @@ static inline const char *ccfb_refusal_text(uint8_t refused)
     case CCFB_FILLER_NOT_ZERO: return "filler is not zero";
     case CCFB_NO_BLOCK: return "no such report block";
     case CCFB_NO_NUMBER: return "no such sequence number in the block";
-    case CCFB_BAD_DATAGRAM: return "datagram is not RTCP packets back to back";
+    case CCFB_BAD_DATAGRAM: return "octets are not RTCP packets back to back";
     case CCFB_NO_PACKET: return "no such packet in the datagram";
     default: return "unknown refusal";
     }
