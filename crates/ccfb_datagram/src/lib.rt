@@ -29,7 +29,8 @@ pub extern "C" fn ccfb_feedback_count(datagram: &[u8], count: &mut usize) -> u8
     }
 }
 
-// CCFB packet k, from 0: where it starts, and how many octets it has. Refusals 31, 32, 21 to 28; both numbers are then 0.
+// CCFB packet k, from 0: where it starts, and how many octets it has. Refusals 31, 32, 21, 25 to 28; both numbers are
+// then 0.
 #[no_mangle]
 pub extern "C" fn ccfb_feedback(
     datagram: &[u8],
