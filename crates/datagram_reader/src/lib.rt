@@ -1,8 +1,11 @@
 // CCFB packet k of a datagram, checked as the reader checks a packet. It accepts any octets, and answers or gives the
 // first refusal. The whole datagram is walked before any answer.
+ghost use Prim.Native.Nat.{_≤_};
 ghost use mathlib.Core.Path.{_≡_};
-ghost use Rattle.datagram.specs.Walk.{behind, packetOctets, packetsFrom};
-ghost use Rattle.datagram_reader.specs.Reading.{located, checked, readFeedback, feedbackPart, feedbackRefusal};
+ghost use lib.ListN.{length};
+ghost use Rattle.datagram.specs.Walk.{behind, packetOctets, packetsFrom, packetsOf};
+ghost use Rattle.datagram_reader.specs.Reading.{located, readFeedback, feedbackPart, feedbackRefusal};
+ghost use Rattle.datagram_reader.specs.Steps.{foundBefore};
 use datagram::PacketStep;
 use datagram::RtcpPacket;
 use datagram_count::FeedbackCount;
@@ -17,6 +20,7 @@ pub enum FeedbackAnswer {
 
 // A packet that was found, if the rest of the datagram is packets too.
 fn found_in_whole(datagram: &[u8], p: RtcpPacket) -> FeedbackAnswer
+    requires within { ⌜ behind p ≤ length (now datagram) ⌝ }
     ensures value { λ r. ⌜ r ≡ foundBefore p (packetsFrom (now (datagram .entry)) (behind p)) ⌝ }
 {
     let rest = datagram_count::count_from(datagram, p.at + p.size);
@@ -26,11 +30,11 @@ fn found_in_whole(datagram: &[u8], p: RtcpPacket) -> FeedbackAnswer
     }
 }
 
-// CCFB packet k, by the headers, of the walk that starts at an offset.
-fn locate(datagram: &[u8], from: usize, k: usize) -> FeedbackAnswer
-    ensures value { λ r. ⌜ r ≡ located (packetsFrom (now (datagram .entry)) from) k ⌝ }
+// CCFB packet k of a datagram, by the headers.
+fn locate(datagram: &[u8], k: usize) -> FeedbackAnswer
+    ensures value { λ r. ⌜ r ≡ located (packetsOf (now (datagram .entry))) k ⌝ }
 {
-    let mut at = from;
+    let mut at = 0;
     let mut left = k;
     loop {
         let here = datagram_walk::next_packet(datagram, at);
@@ -55,15 +59,16 @@ fn part_of<'a>(datagram: &'a [u8], p: RtcpPacket) -> &'a [u8]
     requires within { ⌜ behind p ≤ length (now datagram) ⌝ }
     ensures part { λ r. ⌜ now r ≡ packetOctets (now (datagram .entry)) p ⌝ }
 {
-    let end = p.at + p.size;
-    &datagram[p.at..end]
+    let from = p.at;
+    let end = from + p.size;
+    &datagram[from..end]
 }
 
 // CCFB packet k, from 0, of a datagram: where it stands.
 pub fn feedback(datagram: &[u8], k: usize) -> FeedbackAnswer
     ensures value { λ r. ⌜ r ≡ readFeedback (now (datagram .entry)) k ⌝ }
 {
-    let found = locate(datagram, 0, k);
+    let found = locate(datagram, k);
     match found {
         FeedbackAnswer::Found(p) => {
             let reading = reader::read(part_of(datagram, p));
