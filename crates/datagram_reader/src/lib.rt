@@ -23,7 +23,8 @@ fn found_in_whole(datagram: &[u8], p: RtcpPacket) -> FeedbackAnswer
     requires within { ⌜ behind p ≤ length (now datagram) ⌝ }
     ensures value { λ r. ⌜ r ≡ foundBefore p (packetsFrom (now (datagram .entry)) (behind p)) ⌝ }
 {
-    let rest = datagram_count::count_from(datagram, p.at + p.size);
+    let behind = p.at + p.size;
+    let rest = datagram_count::count_from(datagram, behind);
     match rest {
         FeedbackCount::Packets(_) => FeedbackAnswer::Found(p),
         FeedbackCount::Refused(e) => FeedbackAnswer::Refused(e),
