@@ -2,6 +2,7 @@
 //! is measured against. `compare --baseline` shows that it does the same.
 
 pub mod ccfbline;
+pub mod datagram;
 pub mod metric;
 pub mod packet;
 pub mod store;

@@ -1,6 +1,7 @@
 //! The benchmark: each row runs the same work on libccfb.a and on the baseline.
 
 mod ccfbline;
+mod datagram;
 mod metric;
 mod packet;
 mod store;
@@ -26,6 +27,7 @@ pub fn rows() -> Vec<Row> {
     rows.extend(store::rows());
     rows.extend(packet::rows());
     rows.extend(writer::rows());
+    rows.extend(datagram::rows());
     rows.extend(ccfbline::rows());
     rows
 }

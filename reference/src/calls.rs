@@ -1,5 +1,6 @@
 //! The C functions of each subject, and safe wrappers of them for the comparison.
 
+pub mod datagram;
 pub mod metric;
 pub mod packet;
 pub mod store;

@@ -1,6 +1,8 @@
 //! The comparison of the reference with libccfb.a, or with the baseline, subject by subject.
 
 mod ccfbline;
+mod datagram;
+mod datagrams;
 mod lent_words;
 mod metric;
 mod packet;
@@ -103,7 +105,7 @@ fn numbered<T>(answer: Result<T, Refusal>) -> Result<T, u8> {
 }
 
 /// The names of the subjects, in order.
-pub const SUBJECTS: [&str; 5] = ["metric", "store", "packet", "writer", "ccfbline"];
+pub const SUBJECTS: [&str; 6] = ["metric", "store", "packet", "writer", "datagram", "ccfbline"];
 
 /// Runs a subject: the line to print, a mismatch, or `None` if this build cannot reach it.
 pub fn run(name: &str, with: With) -> Option<Result<String, Mismatch>> {
@@ -121,6 +123,7 @@ pub fn run(name: &str, with: With) -> Option<Result<String, Mismatch>> {
         "writer" => {
             writer::run(&with.of(WriterCalls::product(), baseline::writer::BASELINE)?, tally)
         }
+        "datagram" => datagram::run(&datagram::Calls::of(with)?, tally),
         _ => {
             let product = cfg!(feature = "ccfbline").then(program::product);
             ccfbline::run(&with.of(product, program::baseline())?, tally)

@@ -12,6 +12,7 @@ pub mod calls;
 pub mod ccfbline;
 pub mod compare;
 pub mod cutting;
+pub mod datagram;
 pub mod ffi;
 pub mod lent;
 pub mod metric;

@@ -21,10 +21,10 @@ pub struct Block {
 /// The first two octets: version 2 in two bits, no padding in one, FMT 11 in five; type 205.
 pub const FIRST_OCTETS: [u8; 2] = [0x8B, 0xCD];
 
-const VERSION: &str = "10";
-const NO_PADDING: &str = "0";
-const FMT: &str = "01011";
-const TYPE: u8 = 205;
+pub const VERSION: &str = "10";
+pub const NO_PADDING: &str = "0";
+pub const FMT: &str = "01011";
+pub const TYPE: u8 = 205;
 
 /// A packet has a header that ends with the sender, blocks that have a header each, and RTS.
 pub const HEADER_OCTETS: usize = 8;

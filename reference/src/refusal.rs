@@ -27,6 +27,8 @@ pub enum Refusal {
     FillerNotZero = 28,
     NoBlock = 29,
     NoNumber = 30,
+    BadDatagram = 31,
+    NoPacket = 32,
 }
 
 impl Refusal {

@@ -19,11 +19,11 @@ pub const BASELINE: PacketCalls = PacketCalls {
 
 /// The first octet has the version in two bits, the padding flag in one and FMT in five; the
 /// second is the type.
-const VERSION: u8 = 2;
-const PADDING_FLAG: u8 = 0x20;
-const FMT_MASK: u8 = 0x1F;
-const FMT: u8 = 11;
-const TYPE: u8 = 205;
+pub(super) const VERSION: u8 = 2;
+pub(super) const PADDING_FLAG: u8 = 0x20;
+pub(super) const FMT_MASK: u8 = 0x1F;
+pub(super) const FMT: u8 = 11;
+pub(super) const TYPE: u8 = 205;
 
 /// Where the sender is, and the length of a header that ends with it.
 const SENDER_AT: usize = 4;
@@ -56,7 +56,7 @@ impl Found {
 }
 
 #[inline]
-fn be16(octets: &[u8], at: usize) -> u16 {
+pub(super) fn be16(octets: &[u8], at: usize) -> u16 {
     u16::from_be_bytes([octets[at], octets[at + 1]])
 }
 
@@ -123,6 +123,12 @@ fn walk(packet: &[u8], mut visit: impl FnMut(Found)) -> u8 {
             Err(refusal) => return refusal,
         }
     }
+}
+
+/// The reader's refusal of a packet, or 0.
+#[inline]
+pub(super) fn refused(packet: &[u8]) -> u8 {
+    walk(packet, |_| ())
 }
 
 /// Block `k`.
@@ -313,7 +319,7 @@ unsafe extern "C" fn rewrite(
     written: *mut usize,
 ) -> u8 {
     let packet = slice::from_raw_parts(packet, len);
-    let refused = walk(packet, |_| ());
+    let refused = refused(packet);
     if refused != 0 {
         return refused;
     }

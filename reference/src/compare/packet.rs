@@ -51,7 +51,7 @@ pub fn run(calls: &PacketCalls, tally: &mut Tally) -> Result<(), Mismatch> {
 }
 
 /// Asks everything about some octets, and rewrites them.
-fn compare(
+pub(super) fn compare(
     calls: &PacketCalls,
     tally: &mut Tally,
     rng: &mut Rng,

@@ -62,7 +62,6 @@ fn starts(counts: &[usize]) -> Vec<usize> {
 /// Puts a fault of a random kind into the octets of a packet with these counts. Some kinds find
 /// nothing to damage in some packets.
 pub fn put_fault(rng: &mut Rng, octets: &mut Vec<u8>, counts: &[usize]) {
-    let block = rng.below(counts.len().max(1) as u64) as usize;
     match rng.below(9) {
         0 => octets[0] ^= rng.pick(&[0x40, 0x80, 0xC0]),
         1 => octets[0] ^= 1 + rng.below(31) as u8,
@@ -70,8 +69,16 @@ pub fn put_fault(rng: &mut Rng, octets: &mut Vec<u8>, counts: &[usize]) {
         3 => octets[0] ^= 0x20,
         4 => octets[3] = octets[3].wrapping_add(rng.pick(&[1, 255, 2, 16])),
         5 => octets[2] ^= 1 << rng.below(8),
-        6 => cut_words(rng, octets),
-        7 => damage_count(rng, octets, &starts(counts), block),
+        _ => put_body_fault(rng, octets, counts),
+    }
+}
+
+/// As `put_fault`, with a fault behind the header; the length field fits the octets.
+pub fn put_body_fault(rng: &mut Rng, octets: &mut Vec<u8>, counts: &[usize]) {
+    let block = rng.below(counts.len().max(1) as u64) as usize;
+    match rng.below(3) {
+        0 => cut_words(rng, octets),
+        1 => damage_count(rng, octets, &starts(counts), block),
         _ => damage_filler(rng, octets, counts, block),
     }
 }
