@@ -1,6 +1,6 @@
 /*
- * What the header promises beside the calls themselves: NULL with length 0, refusals in words, and
- * room enough for any limit.
+ * What the header promises beside the calls themselves: NULL with length 0, what a refused call on
+ * a datagram leaves in its outputs, refusals in words, and room enough for any limit.
  */
 #include "ccfb.h"
 
@@ -9,6 +9,9 @@
 
 /* The streams of the tests, and how many numbers of each arrive, from 0 on. */
 enum { FIRST = 7, SECOND = 9, NUMBERS = 16, HIGHEST = NUMBERS - 1 };
+
+/* What an output holds before a call that must not write it. */
+enum { BEFORE = 99 };
 
 static int wrong;
 
@@ -73,12 +76,81 @@ static void null_packet(void)
           "rewrite to no output");
 }
 
+/* A datagram of no octets holds no packets. */
+static void null_datagram(void)
+{
+    size_t count = BEFORE, at = 0, packet_at = BEFORE, length = BEFORE;
+    uint8_t type = BEFORE, format = BEFORE;
+    check(ccfb_feedback_count(NULL, 0, &count) == 0 && count == 0, "feedback count");
+    check(ccfb_feedback(NULL, 0, 0, &packet_at, &length) == CCFB_NO_PACKET, "feedback");
+    check(packet_at == 0 && length == 0, "feedback of no octets");
+    check(ccfb_next_packet(NULL, 0, &at, &type, &format, &packet_at, &length) == CCFB_NO_PACKET,
+          "next packet");
+    check(at == 0 && type == BEFORE && format == BEFORE, "next packet of no octets");
+}
+
+enum { FEEDBACK_AT = 8, FEEDBACK_LENGTH = 12, HEADER_AT = 20, GOODBYE_AT = 24, OCTETS = 28 };
+static const uint8_t datagram[OCTETS] = {
+    0x80, 201, 0, 1, 0, 0, 0, 1,             /* a receiver report */
+    0x8b, 205, 0, 2, 0, 0, 0, 1, 0, 0, 0, 2, /* feedback without blocks */
+    0x8b, 205, 0, 0,                         /* a header of feedback, and no more */
+    0x80, 203, 0, 0,                         /* a goodbye */
+};
+
+/* The part of feedback k of the datagram's first octets; both outputs are 0 where it is refused. */
+static void part(size_t octets, size_t k, uint8_t refused, size_t part_at, size_t part_length)
+{
+    size_t packet_at = BEFORE, length = BEFORE;
+    check(ccfb_feedback(datagram, octets, k, &packet_at, &length) == refused, "feedback k");
+    check(packet_at == part_at && length == part_length, "where feedback k is");
+}
+
+static void parts(void)
+{
+    size_t count = BEFORE;
+    check(ccfb_feedback_count(datagram, OCTETS - 1, &count) == CCFB_BAD_DATAGRAM, "a bad datagram");
+    check(count == BEFORE, "the count of a bad datagram");
+    check(ccfb_feedback_count(datagram, OCTETS, &count) == 0 && count == 2, "a good datagram");
+    part(OCTETS, 0, 0, FEEDBACK_AT, FEEDBACK_LENGTH);
+    part(OCTETS, 1, CCFB_PACKET_TOO_SHORT, 0, 0);
+    part(OCTETS, 2, CCFB_NO_PACKET, 0, 0);
+    part(OCTETS, SIZE_MAX, CCFB_NO_PACKET, 0, 0);
+    part(OCTETS - 1, 0, CCFB_BAD_DATAGRAM, 0, 0);
+}
+
+/* A refused step of the walk writes nothing. */
+static void refused_step(size_t octets, size_t from, uint8_t refused)
+{
+    size_t at = from, packet_at = BEFORE, length = BEFORE;
+    uint8_t type = BEFORE, format = BEFORE;
+    check(ccfb_next_packet(datagram, octets, &at, &type, &format, &packet_at, &length) == refused,
+          "a refused step");
+    check(at == from && type == BEFORE && format == BEFORE && packet_at == BEFORE &&
+              length == BEFORE,
+          "the outputs of a refused step");
+}
+
+static void steps(void)
+{
+    size_t at = FEEDBACK_AT, packet_at, length;
+    uint8_t type, format;
+    check(ccfb_next_packet(datagram, OCTETS, &at, &type, &format, &packet_at, &length) == 0, "step");
+    check(at == HEADER_AT && type == 205 && format == 11, "the packet of a step");
+    check(packet_at == FEEDBACK_AT && length == FEEDBACK_LENGTH, "where the packet of a step is");
+    refused_step(OCTETS, OCTETS, CCFB_NO_PACKET);
+    refused_step(OCTETS, SIZE_MAX, CCFB_NO_PACKET);
+    refused_step(OCTETS, GOODBYE_AT + 1, CCFB_BAD_DATAGRAM);
+    refused_step(HEADER_AT - 1, FEEDBACK_AT, CCFB_BAD_DATAGRAM);
+}
+
 static void texts(void)
 {
     check(strcmp(ccfb_refusal_text(0), "accepted") == 0, "text of 0");
     check(strcmp(ccfb_refusal_text(CCFB_NO_BLOCK), "no such report block") == 0, "text of 29");
+    check(strcmp(ccfb_refusal_text(CCFB_NO_PACKET), "no such packet in the datagram") == 0,
+          "text of 32");
     for (unsigned refused = 1; refused < 256; refused++) {
-        bool known = refused <= 14 || (21 <= refused && refused <= 30);
+        bool known = refused <= 14 || (21 <= refused && refused <= 32);
         bool said = strcmp(ccfb_refusal_text((uint8_t)refused), "unknown refusal") != 0;
         check(known == said, "which numbers have a text");
     }
@@ -127,6 +199,9 @@ int main(void)
     null_store();
     null_output();
     null_packet();
+    null_datagram();
+    parts();
+    steps();
     texts();
     room();
     return wrong;

@@ -1,10 +1,10 @@
 //! Datagrams: of every kind of packet, whole, damaged and cut, and of random words.
 
 use super::datagrams::{
-    damage_end, other_packet, put_fault, random_datagram, words, Datagram, FAULTS,
+    damage_end, other_packet, put_fault, random_datagram, short_headers, Datagram, FAULTS,
 };
 use super::lent_words::random_words;
-use super::packet;
+use super::packet::{self, LONGEST};
 use super::packets::packet_of;
 use super::requests::{good_requests, Size};
 use super::{numbered, Hex, Mismatch, Tally, With};
@@ -16,6 +16,7 @@ use crate::calls::writer::WriterCalls;
 use crate::cutting::Request;
 use crate::datagram::{feedback, next_packet, readable, RtcpPacket};
 use crate::lent;
+use crate::packet::{BLOCK_HEADER_OCTETS, EMPTY_PACKET_OCTETS};
 use crate::refusal::Refusal;
 use crate::rng::{rounds, Rng};
 use crate::store::MOST_PLACES;
@@ -24,9 +25,8 @@ use crate::writer::{Report, LEAST_LIMIT, MOST_REQUESTS};
 /// A CCFB packet without blocks.
 const EMPTY_FEEDBACK: [u8; 12] = [0x8B, 205, 0, 2, 0, 0, 0, 1, 0, 0, 0, 2];
 
-/// The octets of the longest packet, and the most blocks that a CCFB packet can have.
-const LONGEST: usize = 4 * 65_536;
-const MOST_BLOCKS: usize = (LONGEST - 12) / 8;
+/// The most blocks that a CCFB packet can have.
+const MOST_BLOCKS: usize = (LONGEST - EMPTY_PACKET_OCTETS) / BLOCK_HEADER_OCTETS;
 
 /// Numbers that a cut to 16 or 32 bits makes small, and the largest.
 const HUGE: [usize; 4] = [65_536, 1 << 32, usize::MAX - 3, usize::MAX];
@@ -129,7 +129,8 @@ fn part(
     tally.same(&("feedback", k, Hex(datagram)), ours, numbered(part))
 }
 
-/// The reader answers the same of the part as of a copy of its octets.
+/// The reader answers the same of the part as of a copy of its octets; now and then it is asked
+/// everything about the part.
 fn read_part(
     calls: &Calls,
     tally: &mut Tally,
@@ -147,6 +148,7 @@ fn read_part(
     Ok(())
 }
 
+/// A datagram that is refused has no parts.
 fn no_part(
     calls: &Calls,
     tally: &mut Tally,
@@ -226,13 +228,15 @@ fn damaged(calls: &Calls, tally: &mut Tally, rng: &mut Rng) -> Result<(), Mismat
             compare(calls, tally, rng, &damaged)?;
         }
     }
-    for faults in [0, 0, 0, 1, 2, 3] {
+    for faults in [0, 0, 0, 2, 2, 3] {
         let mut damaged = octets.clone();
         for _ in 0..faults.min(starts.len()) {
             let (start, fault) = (rng.pick(&starts), rng.pick(&FAULTS));
             put_fault(rng, &mut damaged, start, fault);
         }
-        damage_end(rng, &mut damaged);
+        if faults == 0 || rng.one_in(2) {
+            damage_end(rng, &mut damaged);
+        }
         compare(calls, tally, rng, &damaged)?;
     }
     Ok(())
@@ -246,7 +250,7 @@ fn cut_at_each_octet(calls: &Calls, tally: &mut Tally, rng: &mut Rng) -> Result<
 
 fn random_headers(calls: &Calls, tally: &mut Tally, rng: &mut Rng) -> Result<(), Mismatch> {
     let count = rng.below(20);
-    let octets = words(rng, count);
+    let octets = short_headers(rng, count);
     compare(calls, tally, rng, &octets)
 }
 
@@ -264,8 +268,8 @@ fn written(calls: &Calls, tally: &mut Tally, rng: &mut Rng) -> Result<(), Mismat
         let requests = good_requests(rng, &store, MOST_REQUESTS, Size::Small);
         let limit = LEAST_LIMIT + rng.below(60) as usize;
         let report = Report { sender: rng.u32(), rts: rng.u32(), limit };
-        let others = (0..rng.below(4)).flat_map(|_| other_packet(rng)).collect();
-        behind_others(calls, tally, others, &lent, report, &requests)?;
+        let others: Vec<u8> = (0..rng.below(4)).flat_map(|_| other_packet(rng)).collect();
+        behind_others(calls, tally, &others, &lent, report, &requests)?;
     }
     Ok(())
 }
@@ -275,7 +279,7 @@ fn written(calls: &Calls, tally: &mut Tally, rng: &mut Rng) -> Result<(), Mismat
 fn behind_others(
     calls: &Calls,
     tally: &mut Tally,
-    others: Vec<u8>,
+    others: &[u8],
     lent: &Words,
     report: Report,
     requests: &[Request],
@@ -286,7 +290,7 @@ fn behind_others(
     tally.same(&("write", report, requests), answer.map(|_| ()), Ok(()))?;
     let (packets, octets) = answer.unwrap_or((0, 0));
     let mut at = others.len();
-    let datagram = [&others, &out[..octets]].concat();
+    let datagram = [others, &out[..octets]].concat();
     let input = ("written", report, requests, Hex(&datagram));
     tally.same(&input, calls.datagram.feedback_count(&datagram), Ok(packets))?;
     for k in 0..packets {

@@ -112,15 +112,16 @@ fn random_feedback(rng: &mut Rng) -> Vec<u8> {
 }
 
 fn rtcp(rng: &mut Rng, format: u8, packet_type: u8, body_words: u64) -> Vec<u8> {
-    let mut octets = [vec![VERSION_2 | format, packet_type, 0, 0], words(rng, body_words)].concat();
+    let mut octets =
+        [vec![VERSION_2 | format, packet_type, 0, 0], short_headers(rng, body_words)].concat();
     set_length(&mut octets);
     octets
 }
 
-/// Random words, of which most look like the header of a short packet: a walk that takes a wrong
-/// length goes on through them.
-pub fn words(rng: &mut Rng, count: u64) -> Vec<u8> {
-    let word = |_| if rng.one_in(8) { rng.u32().to_be_bytes() } else { header(rng) };
+/// Words that look like the header of a short packet, but for some: a walk that takes a wrong length
+/// goes on through them.
+pub fn short_headers(rng: &mut Rng, count: u64) -> Vec<u8> {
+    let word = |_| if rng.one_in(8) { rng.u32().to_be_bytes() } else { short_header(rng) };
     (0..count).flat_map(word).collect()
 }
 
@@ -130,7 +131,7 @@ fn any_format(rng: &mut Rng) -> u8 {
     rng.pick(&[CCFB, any])
 }
 
-fn header(rng: &mut Rng) -> [u8; 4] {
+fn short_header(rng: &mut Rng) -> [u8; 4] {
     let format = any_format(rng);
     let padding_flag = if rng.one_in(16) { PADDING_FLAG } else { 0 };
     let packet_type = rng.pick(&[BYE, TRANSPORT_FEEDBACK, TRANSPORT_FEEDBACK, PAYLOAD_FEEDBACK]);
@@ -141,7 +142,7 @@ fn header(rng: &mut Rng) -> [u8; 4] {
 fn pad(rng: &mut Rng, packet: &mut Vec<u8>) {
     packet[0] |= PADDING_FLAG;
     let added = rng.below(3);
-    packet.extend(words(rng, added));
+    packet.extend(short_headers(rng, added));
     set_length(packet);
 }
 
@@ -172,7 +173,8 @@ pub fn put_fault(rng: &mut Rng, datagram: &mut [u8], start: usize, fault: Fault)
         Fault::Type => header[1] = rng.pick(&[TRANSPORT_FEEDBACK, PAYLOAD_FEEDBACK, any as u8]),
         Fault::Longer => {
             // Among others: up to the end of the datagram, and one word past it.
-            let to = [field + 1, field + 2, words_left - 1, words_left, u16::MAX, any];
+            let one_more = field.saturating_add(1);
+            let to = [one_more, words_left - 1, words_left, u16::MAX, any];
             header[2..].copy_from_slice(&rng.pick(&to).to_be_bytes());
         }
         Fault::Shorter => {
@@ -191,7 +193,7 @@ pub fn damage_end(rng: &mut Rng, datagram: &mut Vec<u8>) {
         2 => datagram.extend(std::iter::repeat_n(VERSION_2, 1 + rng.below(3) as usize)),
         _ => {
             let added = 1 + rng.below(3);
-            datagram.extend(words(rng, added));
+            datagram.extend(short_headers(rng, added));
         }
     }
 }

@@ -21,7 +21,7 @@ const EDGE_OFFSETS: [u16; 3] = [0x1FFD, 0x1FFE, 0x1FFF];
 const OFFSET_BITS: u32 = 13;
 
 /// The octets of the longest packet that a length field can give.
-const LONGEST: usize = 4 * 65_536;
+pub(super) const LONGEST: usize = 4 * 65_536;
 
 pub fn run(calls: &PacketCalls, tally: &mut Tally) -> Result<(), Mismatch> {
     known_traps(calls, tally)?;
