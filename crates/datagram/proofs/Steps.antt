@@ -161,6 +161,10 @@ module _ (s : List ℕ) (at : ℕ) where
   unfolding packetAt
   step-end h = front-end (drop at s) at (omega (arith, length-drop at s))
 
+  pub step-none : NoPacketIn (drop at s) → Broken ≡ packetAt s at
+  unfolding packetAt
+  step-none n = front-none (drop at s) at n
+
   pub ended : packetAt s at ≡ End → length s ≤ at
   ended = step-cases (λ k. k ≡ End → length s ≤ at) (λ h e. h) (λ n e. never (cc)) (λ f e. never (cc))
 

@@ -2,3 +2,4 @@ pub mod Refused
 pub mod Found
 pub mod Cursor
 pub mod Written
+pub mod Starred
