@@ -134,7 +134,8 @@ static void steps(void)
 {
     size_t at = FEEDBACK_AT, packet_at, length;
     uint8_t type, format;
-    check(ccfb_next_packet(datagram, OCTETS, &at, &type, &format, &packet_at, &length) == 0, "step");
+    check(ccfb_next_packet(datagram, OCTETS, &at, &type, &format, &packet_at, &length) == 0,
+          "a step");
     check(at == HEADER_AT && type == 205 && format == 11, "the packet of a step");
     check(packet_at == FEEDBACK_AT && length == FEEDBACK_LENGTH, "where the packet of a step is");
     refused_step(OCTETS, OCTETS, CCFB_NO_PACKET);

@@ -112,13 +112,13 @@ fn random_feedback(rng: &mut Rng) -> Vec<u8> {
 }
 
 fn rtcp(rng: &mut Rng, format: u8, packet_type: u8, body_words: u64) -> Vec<u8> {
-    let mut octets =
-        [vec![VERSION_2 | format, packet_type, 0, 0], short_headers(rng, body_words)].concat();
+    let mut octets = vec![VERSION_2 | format, packet_type, 0, 0];
+    octets.extend(short_headers(rng, body_words));
     set_length(&mut octets);
     octets
 }
 
-/// Words that look like the header of a short packet, but for some: a walk that takes a wrong length
+/// Words of which most look like the header of a short packet: a walk that takes a wrong length
 /// goes on through them.
 pub fn short_headers(rng: &mut Rng, count: u64) -> Vec<u8> {
     let word = |_| if rng.one_in(8) { rng.u32().to_be_bytes() } else { short_header(rng) };
