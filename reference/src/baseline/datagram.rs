@@ -7,7 +7,7 @@ use std::slice;
 
 pub const BASELINE: DatagramCalls = DatagramCalls { feedback_count, feedback, next_packet };
 
-/// Version and padding flag, type, and length field.
+/// The octet of version, padding flag and FMT, the type, and two octets of length.
 const HEADER_OCTETS: usize = 4;
 
 const BAD_DATAGRAM: u8 = Refusal::BadDatagram.number();
@@ -41,6 +41,27 @@ fn walk(datagram: &[u8], mut visit: impl FnMut(usize, usize)) -> u8 {
     0
 }
 
+/// Where CCFB packet `k` starts and ends, if the reader reads it.
+#[inline]
+fn find(datagram: &[u8], k: usize) -> Result<(usize, usize), u8> {
+    let mut found = None;
+    let mut passed = 0;
+    let refused = walk(datagram, |at, end| {
+        if passed == k {
+            found = Some((at, end));
+        }
+        passed += 1;
+    });
+    if refused != 0 {
+        return Err(refused);
+    }
+    let (at, end) = found.ok_or(NO_PACKET)?;
+    match packet::refused(&datagram[at..end]) {
+        0 => Ok((at, end)),
+        refused => Err(refused),
+    }
+}
+
 #[inline(never)]
 unsafe extern "C" fn feedback_count(datagram: *const u8, len: usize, count: *mut usize) -> u8 {
     let mut found = 0;
@@ -69,27 +90,6 @@ unsafe extern "C" fn feedback(
             *packet_length = end - at;
             0
         }
-    }
-}
-
-/// Where CCFB packet `k` starts and ends, if the reader reads it.
-#[inline]
-fn find(datagram: &[u8], k: usize) -> Result<(usize, usize), u8> {
-    let mut found = None;
-    let mut passed = 0;
-    let refused = walk(datagram, |at, end| {
-        if passed == k {
-            found = Some((at, end));
-        }
-        passed += 1;
-    });
-    if refused != 0 {
-        return Err(refused);
-    }
-    let (at, end) = found.ok_or(NO_PACKET)?;
-    match packet::refused(&datagram[at..end]) {
-        0 => Ok((at, end)),
-        refused => Err(refused),
     }
 }
 
