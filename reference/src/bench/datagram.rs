@@ -1,4 +1,4 @@
-//! Finding feedback in a datagram; a step is a datagram that is counted in, a part, or a packet.
+//! Feedback in a datagram; a step is a count, a part, or a packet.
 
 use super::{row, Row};
 use crate::baseline::datagram::BASELINE;
@@ -86,6 +86,7 @@ fn walk(calls: DatagramCalls, datagram: &[u8]) -> usize {
             (calls.next_packet)(octets, len, &mut at, t, f, p, l)
         };
         if refused != 0 {
+            assert_eq!(at, len);
             return sum;
         }
         sum += packet_at + packet_length + usize::from(packet_type) + usize::from(format);
