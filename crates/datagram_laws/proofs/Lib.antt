@@ -1,2 +1,3 @@
+pub mod Kth
 pub mod Cursor
 pub mod Starred
