@@ -13,7 +13,7 @@ use Rattle.lists.specs.Kept.{kept}
 use Rattle.lists.proofs.All.{all-right}
 use Rattle.reader.specs.Reading.{decodePacket}
 use Rattle.packet_header.specs.Header.{typeOf, formatOf}
-use Rattle.datagram.specs.Walk.{packetOctets, packetsOf}
+use Rattle.datagram.specs.Walk.{packetOctets, behind, packetsOf}
 use Rattle.datagram.specs.Datagram.{IsPacket, Holds, placedAt, placed}
 use Rattle.datagram.specs.Feedback.{isFeedback, feedbackOf, feedbackIn, KthFeedback}
 use Rattle.datagram.specs.declared.RtcpPacket.{RtcpPacket}
@@ -118,13 +118,16 @@ kth (p ∷ ps) zero = split-test (test p) (first p ps) (λ t. behind-other p ps 
 kth (p ∷ ps) (suc k) = split-test (test p) (λ t. behind-feedback p ps t k (kth ps k)) (λ t. behind-other p ps t (suc k) (kth ps (suc k)))
 
 module _ (ps : List (List ℕ)) (k : ℕ) (p : List ℕ) (x : KthFeedback ps k p) where
-  -- then there are more than k
-  pub kth-below : k < length (feedbackIn ps)
-  kth-below =
-      let e : feedbackIn ps ≡ feedbackIn (x .before) ++ (p ∷ feedbackIn (x .after)) =
-      ap feedbackIn (x .order) ∙ kept-append test (x .before) (p ∷ x .after) ∙ ap (λ r. feedbackIn (x .before) ++ r) (kept-yes test p (x .after) (x .feedback)) in
-      let l : length (feedbackIn ps) ≡ length (feedbackIn (x .before)) + suc (length (feedbackIn (x .after))) = ap length e ∙ length-append (feedbackIn (x .before)) _ in
-      omega (arith, x .count)
+  -- it is among the CCFB packets, and k are before it
+  pub kth-kept : feedbackIn ps ≡ feedbackIn (x .before) ++ (p ∷ feedbackIn (x .after))
+  kth-kept =
+      ap feedbackIn (x .order) ∙ kept-append test (x .before) (p ∷ x .after)
+      ∙ ap (λ r. feedbackIn (x .before) ++ r) (kept-yes test p (x .after) (x .feedback))
+
+  pub kth-count : length (feedbackIn ps) ≡ k + suc (length (feedbackIn (x .after)))
+  kth-count =
+      ap length kth-kept ∙ length-append (feedbackIn (x .before)) (p ∷ feedbackIn (x .after))
+      ∙ ap (λ (n : ℕ). n + suc (length (feedbackIn (x .after)))) (x .count)
 
   -- packet k is one of the packets
   pub kth-all : (P : List ℕ → Type 0) → All P ps → P p
@@ -177,6 +180,12 @@ module _ (s : List ℕ) (ps : List (List ℕ)) (held : Holds s ps) (k : ℕ) whe
 
     pub kth-octets : packetOctets s standing ≡ p
     kth-octets = rw (joined, drop-append-seam (flatten (x .before)) (p ++ flatten (x .after)), take-append-seam p (flatten (x .after)))
+
+    pub kth-within : behind standing ≤ length s
+    kth-within =
+        let l : length s ≡ length (flatten (x .before)) + length (p ++ flatten (x .after)) =
+        ap length joined ∙ length-append (flatten (x .before)) (p ++ flatten (x .after)) in
+        omega (arith, length-append p (flatten (x .after)))
 
     kth-located : located (packetsOf s) k ≡ Found standing
     unfolding placed

@@ -1,3 +1,5 @@
 pub mod Kth
+pub mod Found
+pub mod Refusals
 pub mod Cursor
 pub mod Starred
