@@ -1,10 +1,10 @@
 -- The packet that is found is CCFB packet k, at its place, and packet k is found if the reader
 -- accepts it. Assumes nothing.
-use Prim.Native.Nat.{ℕ, _+_, _≤_}
-use mathlib.Core.Path.{_≡_, refl, sym, ap, subst, _∙_}
-use mathlib.Core.List.{List, [], _∷_, _++_, flatten}
+use Prim.Native.Nat.{ℕ}
+use mathlib.Core.Path.{_≡_, refl, sym, ap, _∙_}
+use mathlib.Core.List.{List, [], _∷_, flatten}
 use native.Mathlib.Omega.{arith}
-use lib.ListN.{length, length-append}
+use lib.ListN.{length}
 use Rattle.lists.proofs.Cases.{never}
 use Rattle.refusal.specs.Numbers.{numberOf}
 use Rattle.refusal.specs.declared.Refusal.{Refusal}
@@ -12,7 +12,6 @@ use Rattle.packet.specs.Packet.{Packet}
 use Rattle.reader.specs.Reading.{Decoded, packet, refused, decodePacket}
 use Rattle.ccfb_calls.specs.Called.{called}
 use Rattle.call_laws.proofs.Calls.{answers, numbers}
-use Rattle.datagram.specs.Walk.{packetOctets, packetsOf}
 use Rattle.datagram.specs.Datagram.{Holds, placedAt}
 use Rattle.datagram.specs.Feedback.{KthFeedback}
 use Rattle.datagram.specs.declared.RtcpPacket.{RtcpPacket}
@@ -55,22 +54,21 @@ module _ (s : List ℕ) (k : ℕ) where
       by-kth ps h (there p x) = by-reader ps h p x (decodePacket p) refl (sym (read-kth s ps h k p x) ∙ r)
       by-kth ps h (past l) = let z = read-past s ps h k l in never (cc)
 
-  -- ---- the part
+  module _ (b : RtcpPacket) (f : FoundKth s k b) where
+    pub kth-found : readFeedback s k ≡ Found b
+    kth-found = found-feedback (f .packets) (f .octets) (f .reading) (f .held) (f .kth) (f .accepted) ∙ ap Found (sym (f .place))
 
-  -- the part is the packet's octets, and the reader answers of it what it answers of the packet alone
-  module _ (b : RtcpPacket) (found : readFeedback s k ≡ Found b) (f : FoundKth s k b) where
-    pub part-octets : feedbackPart (readFeedback s k) s ≡ f .octets
-    part-octets = rw found (f .stands)
-
-    pub part-found : ReadsAs (feedbackPart (readFeedback s k) s) (f .octets)
-    part-found = rw part-octets (record { whole = refl; block = λ j. refl; metrics = λ j. refl; metric = λ j i. refl })
+    -- the part is the packet's octets, and the reader answers of it what it answers of the packet alone
+    pub part-found : (feedbackPart (readFeedback s k) s ≡ f .octets) × ReadsAs (feedbackPart (readFeedback s k) s) (f .octets)
+    part-found =
+        rw (kth-found, f .stands) (refl, record { whole = refl; block = λ j. refl; metrics = λ j. refl; metric = λ j i. refl })
 
   -- a refused call gives an empty part, and the refusal's number
   pub part-refused : (e : Refusal) → readFeedback s k ≡ Refused e
       → (feedbackPart (readFeedback s k) s ≡ []) × (feedbackRefusal (readFeedback s k) ≡ numberOf e)
   part-refused e r = rw r (refl, refl)
 
-  -- ---- the call from C
+  -- ---- what C is given
 
   pub place-given : (given at size : ℕ) → feedbackCalled (readFeedback s k) ≡ called given (at ∷ size ∷ []) → PlaceGiven s k given at size
   place-given given at size h = by-answer (readFeedback s k) refl h

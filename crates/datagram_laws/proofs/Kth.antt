@@ -1,69 +1,27 @@
 -- Which packet of a datagram is CCFB packet k, where it stands, and that the call finds just this
 -- one. Assumes nothing.
-use Prim.Native.Nat.{ℕ, zero, suc, _+_, _<_, _≤_}
-use mathlib.Core.Bool.{Bool, true, false, cond}
-use mathlib.Core.Path.{_≡_, refl, sym, ap, subst, _∙_}
-use mathlib.Core.List.{List, [], _∷_, _++_, flatten, append-assoc, head-eq-of-cons-eq, tail-eq-of-cons-eq}
+use Prim.Native.Nat.{ℕ, zero, suc, _+_, _≤_}
+use mathlib.Core.Bool.{Bool, true, false}
+use mathlib.Core.Path.{_≡_, refl, sym, ap, _∙_}
+use mathlib.Core.List.{List, [], _∷_, _++_, flatten, append-assoc}
 use native.Mathlib.Omega.{arith}
-use native.Mathlib.Nat.{add-zero, zero-add, add-assoc}
-use lib.ListN.{length, take, drop, length-append}
+use native.Mathlib.Nat.{add-zero, zero-add}
+use lib.ListN.{length, length-append}
 use lib.Seq.{drop-append-seam, take-append-seam}
 use Rattle.lists.specs.All.{All}
 use Rattle.lists.specs.Kept.{kept}
 use Rattle.lists.proofs.All.{all-right}
+use Rattle.lists.proofs.Kept.{kept-yes, kept-no, kept-append, kept-once}
 use Rattle.reader.specs.Reading.{decodePacket}
 use Rattle.packet_header.specs.Header.{typeOf, formatOf}
 use Rattle.datagram.specs.Walk.{packetOctets, behind, packetsOf}
-use Rattle.datagram.specs.Datagram.{IsPacket, Holds, placedAt, placed}
+use Rattle.datagram.specs.Datagram.{Holds, placedAt, placed}
 use Rattle.datagram.specs.Feedback.{isFeedback, feedbackOf, feedbackIn, KthFeedback}
 use Rattle.datagram.specs.declared.RtcpPacket.{RtcpPacket}
 use Rattle.datagram.proofs.Rules.{held-walked, placed-count}
-use Rattle.datagram_reader.specs.Reading.{nth, located, acceptedAs, checked, readFeedback}
+use Rattle.datagram_reader.specs.Reading.{nth, located, acceptedAs, readFeedback}
 use Rattle.refusal.specs.declared.Refusal.the-variants.{NoPacket}
 use Rattle.datagram_reader.specs.declared.FeedbackAnswer.the-variants.{Found, Refused}
-
-module _ {A : Type 0} (test : A → Bool) where
-  pub kept-yes : (x : A) (xs : List A) → test x ≡ true → kept test (x ∷ xs) ≡ x ∷ kept test xs
-  unfolding kept
-  kept-yes x xs e = rw e
-
-  pub kept-no : (x : A) (xs : List A) → test x ≡ false → kept test (x ∷ xs) ≡ kept test xs
-  unfolding kept
-  kept-no x xs e = rw e
-
-  pub kept-append : (xs ys : List A) → kept test (xs ++ ys) ≡ kept test xs ++ kept test ys
-  unfolding kept
-  kept-append [] ys = refl
-  kept-append (x ∷ xs) ys = by-test (test x) (kept-append xs ys)
-    where
-      by-test : (b : Bool) → kept test (xs ++ ys) ≡ kept test xs ++ kept test ys
-          → cond b (x ∷ kept test (xs ++ ys)) (kept test (xs ++ ys)) ≡ cond b (x ∷ kept test xs) (kept test xs) ++ kept test ys
-      by-test true e = ap (λ (zs : List A). x ∷ zs) e
-      by-test false e = e
-
-  -- the element that is kept behind so many others stands at one place
-  pub kept-once : (xs ys : List A) (x y : A) (us vs : List A) → xs ++ x ∷ us ≡ ys ++ y ∷ vs → test x ≡ true → test y ≡ true
-      → length (kept test xs) ≡ length (kept test ys) → (x ≡ y) × (xs ≡ ys)
-  unfolding kept
-  kept-once [] [] x y us vs e f g l = (head-eq-of-cons-eq e, refl)
-  kept-once [] (z ∷ ys) x y us vs e f g l =
-      let t : test z ≡ true = ap test (sym (head-eq-of-cons-eq e)) ∙ f in
-      let m : 0 ≡ suc (length (kept test ys)) = l ∙ ap length (kept-yes z ys t) in
-      absurd (omega arith)
-  kept-once (z ∷ xs) [] x y us vs e f g l =
-      let t : test z ≡ true = ap test (head-eq-of-cons-eq e) ∙ g in
-      let m : suc (length (kept test xs)) ≡ 0 = sym (ap length (kept-yes z xs t)) ∙ l in
-      absurd (omega arith)
-  kept-once (w ∷ xs) (z ∷ ys) x y us vs e f g l =
-      let same : w ≡ z = head-eq-of-cons-eq e in
-      let r = kept-once xs ys x y us vs (tail-eq-of-cons-eq e) f g (fewer (test w) refl (rw (← same) at l)) in
-      (r .0, cc (r .1))
-    where
-      fewer : (b : Bool) → test w ≡ b → length (kept test (w ∷ xs)) ≡ length (kept test (w ∷ ys)) → length (kept test xs) ≡ length (kept test ys)
-      fewer true t h =
-          let m : suc (length (kept test xs)) ≡ suc (length (kept test ys)) = sym (ap length (kept-yes w xs t)) ∙ h ∙ ap length (kept-yes w ys t) in
-          omega arith
-      fewer false t h = sym (ap length (kept-no w xs t)) ∙ h ∙ ap length (kept-no w ys t)
 
 -- ---- CCFB packet k
 
@@ -85,27 +43,24 @@ module _ (p : List ℕ) (ps : List (List ℕ)) where
   unfolding kept
   first t = there p (record { before = []; after = ps; order = refl; feedback = t; count = refl })
 
-  behind-feedback : test p ≡ true → (k : ℕ) → Kth ps k → Kth (p ∷ ps) (suc k)
-  behind-feedback t k (there q x) =
+  -- packet k of the others is packet k + n with p, where p counts n
+  behind-first : (n : ℕ) → ((qs : List (List ℕ)) → length (feedbackIn (p ∷ qs)) ≡ length (feedbackIn qs) + n)
+      → (k m : ℕ) → m ≡ k + n → Kth ps k → Kth (p ∷ ps) m
+  behind-first n more k m e (there q x) =
       there q (record {
         before = p ∷ x .before;
         after = x .after;
         order = ap (λ (r : List (List ℕ)). p ∷ r) (x .order);
         feedback = x .feedback;
-        count = ap length (kept-yes test p (x .before) t) ∙ ap suc (x .count);
+        count = omega (arith, more (x .before), x .count);
       })
-  behind-feedback t k (past l) = past (omega (arith, ap length (kept-yes test p ps t)))
+  behind-first n more k m e (past l) = past (omega (arith, more ps))
+
+  behind-feedback : test p ≡ true → (k : ℕ) → Kth ps k → Kth (p ∷ ps) (suc k)
+  behind-feedback t k = behind-first 1 (λ qs. omega (arith, ap length (kept-yes test p qs t))) k (suc k) (omega arith)
 
   behind-other : test p ≡ false → (k : ℕ) → Kth ps k → Kth (p ∷ ps) k
-  behind-other t k (there q x) =
-      there q (record {
-        before = p ∷ x .before;
-        after = x .after;
-        order = ap (λ (r : List (List ℕ)). p ∷ r) (x .order);
-        feedback = x .feedback;
-        count = ap length (kept-no test p (x .before) t) ∙ x .count;
-      })
-  behind-other t k (past l) = past (omega (arith, ap length (kept-no test p ps t)))
+  behind-other t k = behind-first 0 (λ qs. omega (arith, ap length (kept-no test p qs t))) k k (omega arith)
 
 split-test : {P : Type 0} (b : Bool) → (b ≡ true → P) → (b ≡ false → P) → P
 split-test true f g = f refl
@@ -118,7 +73,7 @@ kth (p ∷ ps) zero = split-test (test p) (first p ps) (λ t. behind-other p ps 
 kth (p ∷ ps) (suc k) = split-test (test p) (λ t. behind-feedback p ps t k (kth ps k)) (λ t. behind-other p ps t (suc k) (kth ps (suc k)))
 
 module _ (ps : List (List ℕ)) (k : ℕ) (p : List ℕ) (x : KthFeedback ps k p) where
-  -- it is among the CCFB packets, and k are before it
+  -- it is one of the CCFB packets, behind k others
   pub kth-kept : feedbackIn ps ≡ feedbackIn (x .before) ++ (p ∷ feedbackIn (x .after))
   kth-kept =
       ap feedbackIn (x .order) ∙ kept-append test (x .before) (p ∷ x .after)
@@ -129,11 +84,11 @@ module _ (ps : List (List ℕ)) (k : ℕ) (p : List ℕ) (x : KthFeedback ps k p
       ap length kth-kept ∙ length-append (feedbackIn (x .before)) (p ∷ feedbackIn (x .after))
       ∙ ap (λ (n : ℕ). n + suc (length (feedbackIn (x .after)))) (x .count)
 
-  -- packet k is one of the packets
+  -- what holds of all packets holds of it
   pub kth-all : (P : List ℕ → Type 0) → All P ps → P p
   kth-all P h = all-right P (x .before) (p ∷ x .after) (rw (x .order) at h) .0
 
-  -- one packet, at one place, is packet k
+  -- no other packet is packet k, and it stands at one place alone
   pub kth-once : (q : List ℕ) (y : KthFeedback ps k q) → (p ≡ q) × (x .before ≡ y .before)
   kth-once q y =
       kept-once test (x .before) (y .before) p q (x .after) (y .after) (sym (x .order) ∙ y .order) (x .feedback) (y .feedback)
@@ -141,12 +96,12 @@ module _ (ps : List (List ℕ)) (k : ℕ) (p : List ℕ) (x : KthFeedback ps k p
 
 -- ---- where it stands
 
-flatten-append : (ps qs : List (List ℕ)) → flatten (ps ++ qs) ≡ flatten ps ++ flatten qs
+pub flatten-append : (ps qs : List (List ℕ)) → flatten (ps ++ qs) ≡ flatten ps ++ flatten qs
 unfolding flatten
 flatten-append [] qs = refl
 flatten-append (p ∷ ps) qs = ap (λ r. p ++ r) (flatten-append ps qs) ∙ sym (append-assoc p (flatten ps) (flatten qs))
 
-placed-append : (at : ℕ) (ps qs : List (List ℕ)) → placed at (ps ++ qs) ≡ placed at ps ++ placed (at + length (flatten ps)) qs
+pub placed-append : (at : ℕ) (ps qs : List (List ℕ)) → placed at (ps ++ qs) ≡ placed at ps ++ placed (at + length (flatten ps)) qs
 unfolding flatten placed
 placed-append at [] qs = ap (λ (i : ℕ). placed i qs) (sym (add-zero at))
 placed-append at (p ∷ ps) qs =
