@@ -58,7 +58,7 @@ module _ (s : List ℕ) (k : ℕ) where
     pub kth-found : readFeedback s k ≡ Found b
     kth-found = found-feedback (f .packets) (f .octets) (f .reading) (f .held) (f .kth) (f .accepted) ∙ ap Found (sym (f .place))
 
-    -- the part is the packet's octets, and the reader answers of it what it answers of the packet alone
+    -- the part is the packet's octets; the reader answers of it as of the packet alone
     pub part-found : (feedbackPart (readFeedback s k) s ≡ f .octets) × ReadsAs (feedbackPart (readFeedback s k) s) (f .octets)
     part-found =
         rw (kth-found, f .stands) (refl, record { whole = refl; block = λ j. refl; metrics = λ j. refl; metric = λ j i. refl })

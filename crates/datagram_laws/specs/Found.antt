@@ -18,8 +18,9 @@ use Rattle.datagram.specs.declared.RtcpPacket.{RtcpPacket}
 use Rattle.datagram_reader.specs.Reading.{readFeedback, feedbackPart, feedbackRefusal}
 use Rattle.datagram_reader.specs.declared.FeedbackAnswer.the-variants as answer
 
--- the packet that was found, b, is CCFB packet k of the packets that s holds; it starts behind those before it, and ends
--- within s; the octets at its offset, as many as its size, are that packet; and the reader accepts them
+-- the packet that was found, b, is CCFB packet k of the packets that s holds; it starts behind
+-- those before it, and ends within s; the octets at its offset, as many as its size, are that
+-- packet; and the reader accepts them
 pub record FoundKth (s : List ℕ) (k : ℕ) (b : RtcpPacket) : Type 0 where
   pub packets : List (List ℕ)
   pub octets : List ℕ
@@ -38,8 +39,9 @@ pub record ReadsAs (part octets : List ℕ) : Type 0 where
   pub metrics : (j : ℕ) → metricsPart (readBlock part j) part ≡ metricsPart (readBlock octets j) octets
   pub metric : (j i : ℕ) → readMetric part j i ≡ readMetric octets j i
 
--- what `ccfb_feedback` answers, and the offset and the length that it gives, belong to CCFB packet k: the octets there
--- are the part that `feedback_part` returns, and the answer is the number that it gives beside the part
+-- what `ccfb_feedback` answers, and the offset and the length that it gives, belong to CCFB packet
+-- k: the octets there are the part that `feedback_part` returns, they lie within s, and the answer
+-- is the number that it gives beside the part
 pub record PlaceGiven (s : List ℕ) (k given at size : ℕ) : Type 0 where
   pub part : octetsAt s at size ≡ feedbackPart (readFeedback s k) s
   pub octets : length (feedbackPart (readFeedback s k) s) ≡ size

@@ -12,7 +12,7 @@ use Rattle.datagram.specs.Feedback.{feedbackIn, KthFeedback}
 use Rattle.packet_laws.specs.Refused.{ReadingGiven}
 use Rattle.refusal.specs.declared.Refusal.the-variants.{BadDatagram, NoPacket}
 
--- no packets back to back make these octets
+-- no packets back to back make these octets; then there is a fault in them (`FaultIn`)
 abbrev pub NoDatagram : List ℕ → Type 0
 NoDatagram s = (ps : List (List ℕ)) → Holds s ps → ⊥
 
@@ -38,6 +38,7 @@ abbrev pub OneOf : ℕ → List ℕ → Type 0
 OneOf n [] = ⊥
 OneOf n (m ∷ ms) = (n ≡ m) ⊎ OneOf n ms
 
--- those of CCFB packet k: 22 to 24 are not among them, since the walk has seen version, type, FMT and length
+-- those of CCFB packet k: 22 to 24 are not among them, since the walk has seen version, type, FMT
+-- and length
 abbrev pub feedbackNumbers : List ℕ
 feedbackNumbers = 31 ∷ 32 ∷ 21 ∷ 25 ∷ 26 ∷ 27 ∷ 28 ∷ []
