@@ -11,8 +11,8 @@ use lib.Seq.{split-at, length-take-le}
 use borrow.Author.Tests.{eq-eqb}
 use Rattle.lists.specs.All.{All}
 use Rattle.lists.specs.Kept.{kept}
-use Rattle.lists.proofs.All.{all-map, all-left, all-right}
-use Rattle.lists.proofs.Kept.{kept-yes, kept-no}
+use Rattle.lists.proofs.All.{all-map, all-left, all-right, all-join, all-but-last}
+use Rattle.lists.proofs.Kept.{kept-behind}
 use Rattle.lists.proofs.Cases.{never}
 use Rattle.octets.specs.Octets.{be16}
 use Rattle.cutting.specs.declared.Request.{Request}
@@ -39,25 +39,6 @@ use Rattle.datagram_laws.proofs.Found.{found-feedback}
 use Rattle.sound_writer.specs.declared.Answer.the-variants.{Written}
 use Rattle.datagram_count.specs.declared.FeedbackCount.the-variants.{Packets}
 use Rattle.datagram_reader.specs.declared.FeedbackAnswer.the-variants.{Found}
-
--- ---- lists
-
-module _ {A : Type 0} where
-  all-join : (P : A → Type 0) (xs ys : List A) → All P xs → All P ys → All P (xs ++ ys)
-  all-join P [] ys h g = g
-  all-join P (x ∷ xs) ys h g = (h .0, all-join P xs ys (h .1) g)
-
-  all-but-last : (P : A → Type 0) (xs : List A) → All P xs → All P (dropLast xs)
-  all-but-last P [] h = tt
-  all-but-last P (x ∷ []) h = tt
-  all-but-last P (x ∷ (y ∷ ys)) h = (h .0, all-but-last P (y ∷ ys) (h .1))
-
-  -- those that pass a test stand behind those that do not
-  kept-behind : (test : A → Bool) (xs ys : List A) → All (λ x. test x ≡ false) xs → All (λ y. test y ≡ true) ys → kept test (xs ++ ys) ≡ ys
-  unfolding kept
-  kept-behind test [] [] h g = refl
-  kept-behind test [] (y ∷ ys) h g = kept-yes test y ys (g .0) ∙ ap (λ (zs : List A). y ∷ zs) (kept-behind test [] ys tt (g .1))
-  kept-behind test (x ∷ xs) ys h g = kept-no test x (xs ++ ys) (h .0) ∙ kept-behind test xs ys (h .1) g
 
 -- ---- walking the length fields leaves no octet out
 

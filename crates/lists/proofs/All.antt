@@ -1,5 +1,5 @@
 -- Laws of `All`. Assumes nothing.
-use mathlib.Core.List.{List, [], _∷_, _++_, map}
+use mathlib.Core.List.{List, [], _∷_, _++_, map, dropLast}
 use Rattle.lists.specs.All.{All}
 
 module _ {A : Type 0} where
@@ -26,3 +26,12 @@ module _ {A : Type 0} where
   pub all-append : (P : A → Type 0) (xs : List A) (x : A) → All P xs → P x → All P (xs ++ (x ∷ []))
   all-append P [] x h p = (p, tt)
   all-append P (y ∷ xs) x h p = (h .0, all-append P xs x (h .1) p)
+
+  pub all-join : (P : A → Type 0) (xs ys : List A) → All P xs → All P ys → All P (xs ++ ys)
+  all-join P [] ys h g = g
+  all-join P (x ∷ xs) ys h g = (h .0, all-join P xs ys (h .1) g)
+
+  pub all-but-last : (P : A → Type 0) (xs : List A) → All P xs → All P (dropLast xs)
+  all-but-last P [] h = tt
+  all-but-last P (x ∷ []) h = tt
+  all-but-last P (x ∷ (y ∷ ys)) h = (h .0, all-but-last P (y ∷ ys) (h .1))

@@ -39,6 +39,13 @@ module _ {A : Type 0} (test : A → Bool) where
       by-test true e = ap (λ (zs : List A). x ∷ zs) e
       by-test false e = e
 
+  -- those that pass the test stand behind those that do not
+  pub kept-behind : (xs ys : List A) → All (λ x. test x ≡ false) xs → All (λ y. test y ≡ true) ys → kept test (xs ++ ys) ≡ ys
+  unfolding kept
+  kept-behind [] [] h g = refl
+  kept-behind [] (y ∷ ys) h g = kept-yes y ys (g .0) ∙ ap (λ (zs : List A). y ∷ zs) (kept-behind [] ys tt (g .1))
+  kept-behind (x ∷ xs) ys h g = kept-no x (xs ++ ys) (h .0) ∙ kept-behind xs ys (h .1) g
+
   -- the element that is kept behind so many others stands at one place
   pub kept-once : (xs ys : List A) (x y : A) (us vs : List A) → xs ++ x ∷ us ≡ ys ++ y ∷ vs → test x ≡ true → test y ≡ true
       → length (kept test xs) ≡ length (kept test ys) → (x ≡ y) × (xs ≡ ys)
