@@ -41,8 +41,8 @@ extern "C" {
 
 #define CCFB_VERSION_MAJOR 0
 #define CCFB_VERSION_MINOR 2
-#define CCFB_VERSION_PATCH 0
-#define CCFB_VERSION "0.2.0"
+#define CCFB_VERSION_PATCH 1
+#define CCFB_VERSION "0.2.1"
 
 /* Refusals. */
 #define CCFB_BAD_MARK 1          /* ECN mark above 3 */
