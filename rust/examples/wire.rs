@@ -1,6 +1,6 @@
 //! Feedback on the wire: a camera and a receiver over UDP, on this machine and by its real clock.
 //! The camera sends RTP, of which some is lost; the receiver reports after every 20 packets, and
-//! the camera reads the reports.
+//! the camera reads the reports. They are sent alone, as reduced-size RTCP allows.
 //!
 //! The standard library does not tell the ECN field of a datagram: here it counts as not-ECT.
 //! examples/wire.c, beside this crate, takes it and the time of arrival from the kernel.

@@ -1,7 +1,7 @@
-//! The C header has the refusals with their meanings, the version, the limits, the marks and the
-//! kinds of metric of this crate.
+//! The C header has the refusals with their meanings, the version, the limits, the marks, the kinds
+//! of metric, and the type and FMT of a CCFB packet of this crate.
 
-use ccfb::{kind, room, Mark, Refusal};
+use ccfb::{kind, room, Datagram, Mark, Refusal};
 
 const HEADER: &str = include_str!("../../include/ccfb.h");
 
@@ -94,6 +94,16 @@ fn kinds() {
     ] {
         assert_eq!(value_of(name), kind.to_string(), "{name}");
     }
+}
+
+/// A header of this type and FMT is that of a CCFB packet, to the library and to this crate.
+#[test]
+fn type_and_format() {
+    let number = |name| value_of(name).parse::<u8>().expect("a number");
+    let octets = [0x80 | number("CCFB_FORMAT"), number("CCFB_PACKET_TYPE"), 0, 0];
+    let datagram = Datagram::read(&octets).expect("a header is a packet");
+    assert_eq!(datagram.feedback_count(), 1);
+    assert!(datagram.packets().all(|packet| packet.is_ccfb()));
 }
 
 #[test]

@@ -10,7 +10,6 @@ use lib.ListN.{length, take, drop, getD, length-append, length-drop, take-append
 use lib.Seq.{split-at, length-take-le}
 use borrow.Author.Tests.{eq-eqb}
 use Rattle.lists.specs.All.{All}
-use Rattle.lists.specs.Kept.{kept}
 use Rattle.lists.proofs.All.{all-map, all-left, all-right, all-join, all-but-last}
 use Rattle.lists.proofs.Kept.{kept-behind}
 use Rattle.lists.proofs.Cases.{never}
