@@ -1,7 +1,7 @@
 /*
  * Feedback on the wire: a camera and a receiver over UDP, on this machine and by its real clock.
  * The camera sends RTP, of which some is lost and some comes late; the receiver reports after
- * every 20 packets; the camera reads the reports. docs/WIRE.md goes through the receiver's part.
+ * every 20 packets; the camera reads the reports. docs/WIRE.md goes through both parts.
  * Linux, IPv4, compound RTCP.
  */
 #ifndef _GNU_SOURCE
@@ -162,21 +162,22 @@ static bool next_request(size_t k, time_t now, struct ccfb_request *request)
     return request->count != 0;
 }
 
-/* What each datagram starts with: an empty receiver report and the receiver's name. */
+/* What each datagram starts with: a receiver report without blocks, and a CNAME. */
 static const uint8_t front[FRONT] = {
-    0x80, 201, 0, 1, 0, 0, 0, 0xf1,                                    /* RR, 8 octets */
-    0x81, 202, 0, 3, 0, 0, 0, 0xf1, 1, 5, 'c', 'l', 'o', 't', 'h', 0, /* SDES, 16 octets */
+    0x80, 201, 0, 1, 0, 0, 0, 0xf1, /* RR of 8 octets, from RECEIVER */
+    0x81, 202, 0, 3, 0, 0, 0, 0xf1, /* SDES of 16 octets, on RECEIVER */
+    1, 5, 'c', 'l', 'o', 't', 'h', 0,
 };
 
 /* Sends each of the packets in a datagram of its own. */
 static bool send_packets(int s, const uint8_t *packets, size_t octets)
 {
     uint8_t datagram[FRONT + LIMIT], type, format;
-    size_t at = 0, packet_at, len;
+    size_t at = 0, packet_at, length;
     memcpy(datagram, front, FRONT);
-    while (ccfb_next_packet(packets, octets, &at, &type, &format, &packet_at, &len) == 0) {
-        memcpy(datagram + FRONT, packets + packet_at, len);
-        if (send(s, datagram, FRONT + len, 0) < 0)
+    while (ccfb_next_packet(packets, octets, &at, &type, &format, &packet_at, &length) == 0) {
+        memcpy(datagram + FRONT, packets + packet_at, length);
+        if (send(s, datagram, FRONT + length, 0) < 0)
             return false;
     }
     return true;
@@ -255,15 +256,16 @@ static void read_feedback(const uint8_t *packet, size_t len)
 /* Reads the feedback in a datagram, whatever other packets it has. */
 static void read_datagram(const uint8_t *datagram, size_t len)
 {
-    uint8_t type, format, refused = 0;
-    size_t at = 0, packet_at, packet_len;
-    while (refused == 0) {
-        refused = ccfb_next_packet(datagram, len, &at, &type, &format, &packet_at, &packet_len);
-        if (refused == 0 && type == CCFB_PACKET_TYPE && format == CCFB_FORMAT)
-            read_feedback(datagram + packet_at, packet_len);
-    }
-    if (refused != CCFB_NO_PACKET)
+    uint8_t type, format, refused;
+    size_t count, at = 0, packet_at, length;
+    refused = ccfb_feedback_count(datagram, len, &count);
+    if (refused != 0) {
         fprintf(stderr, "camera: %s\n", ccfb_refusal_text(refused));
+        return;
+    }
+    while (ccfb_next_packet(datagram, len, &at, &type, &format, &packet_at, &length) == 0)
+        if (type == CCFB_PACKET_TYPE && format == CCFB_FORMAT)
+            read_feedback(datagram + packet_at, length);
 }
 
 /* Reads every datagram that has come. */

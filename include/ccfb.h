@@ -65,7 +65,7 @@ extern "C" {
 #define CCFB_FILLER_NOT_ZERO 28  /* filler is not zero */
 #define CCFB_NO_BLOCK 29         /* no such report block */
 #define CCFB_NO_NUMBER 30        /* no such sequence number in the block */
-#define CCFB_BAD_DATAGRAM 31     /* octets are not RTCP packets back to back */
+#define CCFB_BAD_DATAGRAM 31     /* not a valid RTCP datagram */
 #define CCFB_NO_PACKET 32        /* no such packet in the datagram */
 
 /* ---- Metrics: what feedback says of one sequence number */
@@ -311,23 +311,25 @@ uint8_t ccfb_decode_metrics(const uint8_t *part, size_t len, uint8_t *kinds, siz
 uint8_t ccfb_rewrite(const uint8_t *packet, size_t len, uint8_t *out, size_t out_len,
                      size_t *written);
 
-/* ---- Finding feedback in a datagram; each call accepts any octets
+/* ---- Finding CCFB packets in a datagram; each call accepts any octets
  *
  * A datagram is RTCP packets of any type back to back: each has 4 octets or more, version 2, and
  * the octets that its length field says; only the last may have the padding flag set. It may start
- * with any packet, be a single packet, or have no octets and so no packet. */
+ * with any packet, be a single packet, or have no octets and so no packet. In the names of these
+ * calls, feedback is CCFB. */
 
-/* The type and the FMT of a CCFB packet. */
+/* The type of a CCFB packet, and its FMT (feedback message type, RFC 4585). */
 #define CCFB_PACKET_TYPE 205
 #define CCFB_FORMAT 11
 
 /*
- * How many CCFB packets a datagram holds. Their headers alone are looked at, so those that
- * ccfb_read would refuse count too.
+ * How many CCFB packets a datagram holds. Only headers are checked, so those that ccfb_read would
+ * refuse count too.
  *
  * Returns 0, or this; *count is then unchanged:
- *   CCFB_BAD_DATAGRAM   fewer than 4 octets are left behind a packet, a version is not 2, a length
- *                       field reaches past the end, or a packet before the last is padded
+ *   CCFB_BAD_DATAGRAM   1 to 3 octets are left where a packet should start, a version is not 2, a
+ *                       length field reaches past the end, or a packet that does not end the
+ *                       datagram has the padding flag set
  */
 uint8_t ccfb_feedback_count(const uint8_t *datagram, size_t len, size_t *count);
 
@@ -335,8 +337,11 @@ uint8_t ccfb_feedback_count(const uint8_t *datagram, size_t len, size_t *count);
  * CCFB packet k, from 0: the octet where it starts and its length in octets. It is checked as
  * ccfb_read checks a packet; read it at datagram + packet_at.
  *
- * The whole datagram is walked first, also behind packet k. Padding is not taken off: a last
- * packet with the padding flag is refused.
+ * The headers of all packets are checked first, those after packet k too. So each call walks the
+ * whole datagram. To read all CCFB packets, use ccfb_next_packet: 65,500 octets can hold 16,375
+ * packets, and asking for each by its k walks over all of them each time.
+ *
+ * Padding is not taken off: a last packet with the padding flag is refused.
  *
  * Returns 0, or the first of these that applies; both outputs are then 0:
  *   CCFB_BAD_DATAGRAM   as for ccfb_feedback_count
@@ -351,15 +356,18 @@ uint8_t ccfb_feedback(const uint8_t *datagram, size_t len, size_t k, size_t *pac
  * All packets of a datagram, of any type, in one pass. Set *at to 0; each call gives the packet
  * there and moves *at past it.
  *
- *   packet_type                200 for a sender report, 205 for CCFB and other feedback, ...
- *   format                     FMT, the low 5 bits of octet 0; some types have a count there
- *   packet_at, packet_length   the octet where it starts, and its length in octets
+ *   packet_type     200 for a sender report, 205 for CCFB and other transport-layer feedback, ...
+ *   format          FMT, the low 5 bits of octet 0; some types have a count there
+ *   packet_at       the octet where the packet starts
+ *   packet_length   its length in octets, with padding (octet 0 & 0x20 is the padding flag)
  *
- * A fault is told when the walk gets there, so packets in front of it were given before. To take
- * nothing from a faulty datagram, call ccfb_feedback_count first.
+ * A fault is reported when the walk reaches it, after the packets before it. To take nothing from
+ * a damaged datagram, call ccfb_feedback_count first.
  *
- * Returns 0, CCFB_NO_PACKET after the last packet, or CCFB_BAD_DATAGRAM if no packet is at *at.
- * Nothing is written then. *at may be any number.
+ * Returns 0, or one of these; nothing is written then, so *at stays at the fault:
+ *   CCFB_NO_PACKET      *at is at the end or past it
+ *   CCFB_BAD_DATAGRAM   no packet is at *at, or it has the padding flag set and does not end the
+ *                       datagram
  */
 uint8_t ccfb_next_packet(const uint8_t *datagram, size_t len, size_t *at, uint8_t *packet_type,
                          uint8_t *format, size_t *packet_at, size_t *packet_length);
@@ -398,7 +406,7 @@ static inline const char *ccfb_refusal_text(uint8_t refused)
     case CCFB_FILLER_NOT_ZERO: return "filler is not zero";
     case CCFB_NO_BLOCK: return "no such report block";
     case CCFB_NO_NUMBER: return "no such sequence number in the block";
-    case CCFB_BAD_DATAGRAM: return "octets are not RTCP packets back to back";
+    case CCFB_BAD_DATAGRAM: return "not a valid RTCP datagram";
     case CCFB_NO_PACKET: return "no such packet in the datagram";
     default: return "unknown refusal";
     }

@@ -4,8 +4,14 @@ use crate::{raw, Packet, Refusal};
 use core::iter::FusedIterator;
 
 /// The type and the FMT of a CCFB packet.
-const CCFB_TYPE: u8 = 205;
+const CCFB_PACKET_TYPE: u8 = 205;
 const CCFB_FORMAT: u8 = 11;
+
+/// The padding flag, in the first octet of a packet.
+const PADDING_FLAG: u8 = 0x20;
+
+/// No packet has fewer octets.
+const HEADER_OCTETS: usize = 4;
 
 /// A received datagram, checked as a whole: RTCP packets back to back, of any types.
 ///
@@ -39,16 +45,17 @@ pub struct Datagram<'a> {
 }
 
 impl<'a> Datagram<'a> {
-    /// Checks the headers of all packets of a datagram, which may be any octets. No octets hold no
-    /// packet.
+    /// Checks the headers of all packets of a datagram, which may be any octets. An empty slice
+    /// holds no packet.
     ///
     /// If RTP shares the port, sort it out first: the second octet of RTCP is 192 to 223 (RFC
     /// 5761). SRTCP must be authenticated and decrypted first.
     ///
     /// # Errors
     ///
-    /// [`Refusal::BadDatagram`] if fewer than 4 octets are left for a packet, its version is not 2,
-    /// its length field goes past the end, or its padding flag is set and it is not the last.
+    /// [`Refusal::BadDatagram`] if 1 to 3 octets are left where a packet should start, a version is
+    /// not 2, a length field reaches past the end, or a packet that does not end the datagram has
+    /// the padding flag set.
     ///
     /// ```
     /// use ccfb::{Datagram, Refusal};
@@ -120,7 +127,8 @@ impl<'a> Datagram<'a> {
         FeedbackPackets { packets: self.packets(), left: self.feedback_count }
     }
 
-    /// CCFB packet `k`, from 0. To read all of them, [`feedback`](Datagram::feedback) is quicker.
+    /// CCFB packet `k`, from 0. Each call walks the whole datagram: to read all CCFB packets, use
+    /// [`feedback`](Datagram::feedback), which is one pass.
     ///
     /// # Errors
     ///
@@ -192,10 +200,15 @@ impl<'a> RtcpPacket<'a> {
         self.octets
     }
 
+    /// Whether its padding flag is set. Only the last packet of a datagram may have it.
+    pub fn is_padded(&self) -> bool {
+        self.octets.first().is_some_and(|first| first & PADDING_FLAG != 0)
+    }
+
     /// Whether it is a CCFB packet: of type 205 and FMT 11. Other feedback, such as NACK or PLI,
     /// is not.
     pub fn is_ccfb(&self) -> bool {
-        (self.packet_type, self.format) == (CCFB_TYPE, CCFB_FORMAT)
+        (self.packet_type, self.format) == (CCFB_PACKET_TYPE, CCFB_FORMAT)
     }
 }
 
@@ -211,6 +224,11 @@ impl<'a> Iterator for RtcpPackets<'a> {
 
     fn next(&mut self) -> Option<RtcpPacket<'a>> {
         raw::next_packet(self.datagram, &mut self.at).ok()
+    }
+
+    fn size_hint(&self) -> (usize, Option<usize>) {
+        let left = self.datagram.len().saturating_sub(self.at);
+        (usize::from(left > 0), Some(left / HEADER_OCTETS))
     }
 }
 

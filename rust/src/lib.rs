@@ -25,8 +25,8 @@
 //!
 //! // The sender. The first report starts at the first arrival.
 //! let mut metrics = Vec::new();
-//! for packet in Datagram::read(sent)?.feedback() {
-//!     for block in packet?.blocks().filter(|block| block.ssrc() == 0x0a01) {
+//! for packet in Datagram::read(sent)?.feedback().flatten() {
+//!     for block in packet.blocks().filter(|block| block.ssrc() == 0x0a01) {
 //!         metrics.extend(block.metrics());
 //!     }
 //! }

@@ -83,7 +83,7 @@ refusals! {
     28 FillerNotZero "filler is not zero"
     29 NoBlock "no such report block"
     30 NoNumber "no such sequence number in the block"
-    31 BadDatagram "octets are not RTCP packets back to back"
+    31 BadDatagram "not a valid RTCP datagram"
     32 NoPacket "no such packet in the datagram"
 }
 

@@ -1,5 +1,7 @@
 //! What the writer takes and returns.
 
+use crate::raw;
+
 /// What the packets of one report have in common.
 #[derive(Clone, Copy, Debug, PartialEq, Eq, Hash)]
 pub struct Report {
@@ -50,14 +52,12 @@ impl<'o> Packets<'o> {
 impl<'o> Iterator for Packets<'o> {
     type Item = &'o [u8];
 
-    /// A packet ends where its length field says.
     fn next(&mut self) -> Option<&'o [u8]> {
         let left = self.left.checked_sub(1)?;
-        let &[_, _, high, low, ..] = self.octets else { return None };
-        let words = 1 + usize::from(u16::from_be_bytes([high, low]));
-        let (packet, rest) = self.octets.split_at_checked(4 * words)?;
-        *self = Packets { left, octets: rest };
-        Some(packet)
+        let mut at = 0;
+        let packet = raw::next_packet(self.octets, &mut at).ok()?;
+        *self = Packets { left, octets: self.octets.get(at..)? };
+        Some(packet.octets())
     }
 
     fn size_hint(&self) -> (usize, Option<usize>) {
@@ -76,7 +76,8 @@ mod tests {
         for octets in [&[] as &[u8], &[0; 3], &[0x8b, 0xcd, 0, 2, 0, 0, 0, 0xf1, 0, 0, 0]] {
             assert_eq!(Packets::new(1, octets).next(), None);
         }
-        assert_eq!(Packets::new(1, &[0; 8]).count(), 1);
-        assert_eq!(Packets::new(3, &[0; 8]).count(), 2);
+        let two = [0x8b, 0xcd, 0, 0, 0x8b, 0xcd, 0, 0];
+        assert_eq!(Packets::new(1, &two).count(), 1);
+        assert_eq!(Packets::new(3, &two).count(), 2);
     }
 }

@@ -60,6 +60,17 @@ fn a_refused_packet_does_not_hide_the_next() -> Result<(), Refusal> {
 }
 
 #[test]
+fn the_last_packet_may_be_padded() -> Result<(), Refusal> {
+    let mut padded = PLI;
+    padded[0] |= 0x20;
+    let octets = [&SDES[..], &padded].concat();
+    let packets = Datagram::read(&octets)?.packets();
+    assert_eq!(packets.size_hint(), (1, Some(octets.len() / 4)));
+    assert_eq!(packets.map(|packet| packet.is_padded()).collect::<Vec<_>>(), [false, true]);
+    Ok(())
+}
+
+#[test]
 fn no_octets_hold_no_packet() -> Result<(), Refusal> {
     let datagram = Datagram::try_from(&[][..])?;
     assert_eq!((datagram.packets().count(), datagram.feedback().len()), (0, 0));

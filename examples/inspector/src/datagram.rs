@@ -1,6 +1,6 @@
 //! A datagram in readable form.
 
-use crate::{show, walk};
+use crate::show;
 use ccfb::{Datagram, Packet, RtcpPacket};
 
 /// A CCFB packet alone by itself. Otherwise how many packets there are, and each below that.
@@ -30,8 +30,7 @@ fn feedback(packet: RtcpPacket) -> String {
 }
 
 fn other(packet: RtcpPacket) -> String {
-    let padded = packet.octets().first().is_some_and(|first| first & walk::PADDING != 0);
-    let padding = if padded { ", padded" } else { "" };
+    let padding = if packet.is_padded() { ", padded" } else { "" };
     format!("{} octets{padding}", packet.octets().len())
 }
 

@@ -22,13 +22,13 @@ impl fmt::Display for Fault {
     }
 }
 
-/// The octets of a line in lower or upper case. Spaces are ignored.
+/// The octets of a line in lower or upper case. Spaces and colons are ignored.
 pub fn octets(line: &[u8]) -> Result<Vec<u8>, Fault> {
     let mut digits = Vec::with_capacity(line.len());
     for (&octet, column) in line.iter().zip(1..) {
         match char::from(octet).to_digit(16) {
             Some(digit) => digits.push(digit as u8),
-            None if octet.is_ascii_whitespace() => {}
+            None if octet.is_ascii_whitespace() || octet == b':' => {}
             None => return Err(Fault::NoDigit { octet, column }),
         }
     }
@@ -43,8 +43,9 @@ mod tests {
     use super::*;
 
     #[test]
-    fn either_case_and_spaces() {
+    fn either_case_spaces_and_colons() {
         assert_eq!(octets(b"8b CD\t0a"), Ok(vec![0x8b, 0xcd, 0x0a]));
+        assert_eq!(octets(b"8b:cd:0a"), Ok(vec![0x8b, 0xcd, 0x0a]));
         assert_eq!(octets(b""), Ok(vec![]));
     }
 

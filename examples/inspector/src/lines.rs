@@ -109,7 +109,7 @@ mod tests {
         let (text, taken) = shown(&format!("{ONE_LOST} 80cb\n"));
         assert_eq!(taken, 0);
         let fault = "at octet 24: a header has 4 octets, 2 left";
-        let refused = "refused 31: octets are not RTCP packets back to back";
+        let refused = "refused 31: not a valid RTCP datagram";
         assert_eq!(text, format!("line 1: 26 octets, {refused}\n  {fault}\n"));
     }
 }

@@ -6,7 +6,7 @@ const WORD: usize = 4;
 
 const VERSION: u8 = 2;
 /// The padding flag of a packet's first octet.
-pub const PADDING: u8 = 0x20;
+const PADDING: u8 = 0x20;
 
 /// Where the first octets stand that are not a packet, counted from 0, and what is wrong with them.
 pub fn fault(octets: &[u8]) -> Option<String> {
@@ -35,7 +35,7 @@ fn length(octets: &[u8]) -> Result<usize, String> {
         return Err(format!("the length field says {length} octets, {left} left"));
     }
     if length < left && first & PADDING != 0 {
-        return Err("padding flag before the last packet".to_string());
+        return Err(format!("the padding flag is set, and {} octets follow", left - length));
     }
     Ok(length)
 }
@@ -61,7 +61,7 @@ mod tests {
             (fault(&DATAGRAM[..15]), "at octet 4: the length field says 12 octets, 11 left"),
             (with(6, 0xff), "at octet 4: the length field says 261132 octets, 12 left"),
             (with(4, 0x41), "at octet 4: version 1, not 2"),
-            (with(0, 0xa0), "at octet 0: padding flag before the last packet"),
+            (with(0, 0xa0), "at octet 0: the padding flag is set, and 12 octets follow"),
         ] {
             assert_eq!(fault.as_deref(), Some(words));
         }
