@@ -4,7 +4,8 @@ use Prim.Native.Nat.{ℕ}
 use mathlib.Core.List.{List, [], _∷_}
 use Rattle.refusal.specs.Numbers.{numberOf}
 use Rattle.ccfb_calls.specs.Called.{Called, called, refusedWith}
-use Rattle.datagram.specs.Walk.{behind}
+use Rattle.datagram.specs.Walk.{packetEnd}
+use Rattle.datagram.specs.declared.RtcpPacket.{RtcpPacket}
 use Rattle.datagram.specs.declared.PacketStep.{PacketStep}
 use Rattle.datagram_count.specs.declared.FeedbackCount.{FeedbackCount}
 use Rattle.datagram_reader.specs.declared.FeedbackAnswer.{FeedbackAnswer}
@@ -23,9 +24,12 @@ abbrev pub feedbackCalled : FeedbackAnswer → Called
 feedbackCalled (answer.Found p) = called 0 (p .at ∷ p .size ∷ [])
 feedbackCalled (answer.Refused e) = called (numberOf e) (0 ∷ 0 ∷ [])
 
--- `ccfb_next_packet`: the offset behind the packet; type and FMT; the packet's offset, and how many octets it has
+-- 0, where a packet ends, its type and FMT, its offset, and how many octets it has
+abbrev pub packetGiven : RtcpPacket → Called
+packetGiven p = called 0 (packetEnd p ∷ p .«packet_type» ∷ p .format ∷ p .at ∷ p .size ∷ [])
+
+-- `ccfb_next_packet`
 abbrev pub packetCalled : PacketStep → List ℕ → Called
-packetCalled (step.Packet p) before =
-    called 0 (behind p ∷ p .«packet_type» ∷ p .format ∷ p .at ∷ p .size ∷ [])
+packetCalled (step.Packet p) before = packetGiven p
 packetCalled step.End before = refusedWith NoPacket before
 packetCalled step.Broken before = refusedWith BadDatagram before

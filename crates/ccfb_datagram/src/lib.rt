@@ -44,9 +44,9 @@ pub extern "C" fn ccfb_feedback(
 {
     let answer = datagram_reader::feedback(datagram, k);
     match answer {
-        FeedbackAnswer::Found(p) => {
-            *packet_at = p.at;
-            *packet_length = p.size;
+        FeedbackAnswer::Found(found) => {
+            *packet_at = found.at;
+            *packet_length = found.size;
             0
         }
         FeedbackAnswer::Refused(e) => {

@@ -11,8 +11,8 @@ use lib.Seq.{length-take-le}
 use Rattle.lists.proofs.Cases.{never, split-le, split-eq}
 use Rattle.octets.proofs.Parts.{front16}
 use Rattle.packet_header.specs.Header.{differ, versionOf, paddingOf, lengthOf}
-use Rattle.datagram.specs.Walk.{rtcpHeaderOctets, packetHere, paddedInside, frontOf, packetAt, behind}
-use Rattle.datagram.specs.Datagram.{IsPacket, NoPadding, NoPacketIn, placedAt}
+use Rattle.datagram.specs.Walk.{packetHere, paddedInside, frontOf, packetAt, packetEnd}
+use Rattle.datagram.specs.Datagram.{rtcpHeaderOctets, IsPacket, NoPadding, NoPacketIn, placedAt}
 use Rattle.datagram.specs.declared.RtcpPacket.{RtcpPacket}
 use Rattle.datagram.specs.declared.PacketStep.{PacketStep}
 use Rattle.datagram.specs.declared.PacketStep.the-variants.{Packet, End, Broken}
@@ -88,7 +88,7 @@ front-cases P rest at end none packet =
         (λ p. split-le (length rest) (lengthOf rest)
         (λ l. subst P (front-last rest at h v f (omega arith))
         (packet (record { header = h; version = v; room = f; padding = λ m. absurd (omega arith) })))
-        (λ l. subst P (front-padded rest at h v f l p) (none (NoPacketIn.paddedInside h l p))))
+        (λ l. subst P (front-padded rest at h v f l p) (none (NoPacketIn.paddedEarly h l p))))
 
 -- ---- a packet, and the octets behind it
 
@@ -136,13 +136,13 @@ pub fault-octets : {rest : List ℕ} → NoPacketIn rest → 0 < length rest
 fault-octets (NoPacketIn.fewOctets m l) = m
 fault-octets (NoPacketIn.otherVersion h v) = omega arith
 fault-octets (NoPacketIn.pastTheEnd h l) = omega arith
-fault-octets (NoPacketIn.paddedInside h l p) = omega arith
+fault-octets (NoPacketIn.paddedEarly h l p) = omega arith
 
 found-no-fault : {rest : List ℕ} → NoPacketIn rest → FoundPacket rest → ⊥
 found-no-fault (NoPacketIn.fewOctets m l) f = omega arith
 found-no-fault (NoPacketIn.otherVersion h v) f = v (f .version)
 found-no-fault (NoPacketIn.pastTheEnd h l) f = omega arith
-found-no-fault (NoPacketIn.paddedInside h l p) f = p (f .padding l)
+found-no-fault (NoPacketIn.paddedEarly h l p) f = p (f .padding l)
 
 pub front-none : (rest : List ℕ) (at : ℕ) → NoPacketIn rest → Broken ≡ frontOf rest at
 front-none rest at n =
@@ -184,8 +184,8 @@ module _ (s : List ℕ) (at : ℕ) where
     found-size = ap (λ (x : RtcpPacket). x .size) (found .1)
 
     -- a packet has its header, and lies within the datagram
-    pub found-more : at + rtcpHeaderOctets ≤ behind p
+    pub found-more : at + rtcpHeaderOctets ≤ packetEnd p
     found-more = omega (arith, found-at, found-size)
 
-    pub found-within : behind p ≤ length s
+    pub found-within : packetEnd p ≤ length s
     found-within = omega (arith, found-at, found-size, found .0 .room, found .0 .header, length-drop at s)

@@ -5,7 +5,7 @@ use mathlib.Core.List.{List, []}
 use native.Mathlib.Omega.{arith}
 use lib.ListN.{length, drop}
 use Rattle.datagram.specs.Datagram.{NoPacketIn}
-use Rattle.datagram.specs.Walk.{packetAt, Parsed, packets, broken, inFront, behind, onward, walk, packetsFrom}
+use Rattle.datagram.specs.Walk.{packetAt, Parsed, packets, broken, inFront, packetEnd, onward, walk, packetsFrom}
 use Rattle.datagram.specs.declared.RtcpPacket.{RtcpPacket}
 use Rattle.datagram.specs.declared.PacketStep.{PacketStep}
 use Rattle.datagram.proofs.Steps.{step-end, ended, no-packet, found-more}
@@ -20,9 +20,9 @@ module _ (s : List ℕ) where
   walk-enough (suc n) zero at g h = rw (← step-end s at (omega arith))
   walk-enough (suc n) (suc m) at g h =
       by-step (packetAt s at)
-      (λ p f. walk-enough n m (behind p) (omega (arith, found-more s at p f)) (omega (arith, found-more s at p f))) refl
+      (λ p f. walk-enough n m (packetEnd p) (omega (arith, found-more s at p f)) (omega (arith, found-more s at p f))) refl
     where
-      by-step : (k : PacketStep) → ((p : RtcpPacket) → packetAt s at ≡ Packet p → walk n s (behind p) ≡ walk m s (behind p)) → packetAt s at ≡ k
+      by-step : (k : PacketStep) → ((p : RtcpPacket) → packetAt s at ≡ Packet p → walk n s (packetEnd p) ≡ walk m s (packetEnd p)) → packetAt s at ≡ k
           → onward k (λ i. walk n s i) ≡ onward k (λ i. walk m s i)
       by-step (Packet p) rest f = ap (inFront p) (rest p f)
       by-step End rest f = refl
@@ -34,7 +34,7 @@ module _ (s : List ℕ) where
   walk-step at = walk-enough (length s) (suc (length s)) at (omega arith) (omega arith)
 
   module _ (at : ℕ) (k : PacketStep) (is : k ≡ packetAt s at) where
-    pub walk-packet : (p : RtcpPacket) → k ≡ Packet p → packetsFrom s at ≡ inFront p (packetsFrom s (behind p))
+    pub walk-packet : (p : RtcpPacket) → k ≡ Packet p → packetsFrom s at ≡ inFront p (packetsFrom s (packetEnd p))
     walk-packet p e = walk-step at ∙ rw (← is, e)
 
     pub walk-end : k ≡ End → packetsFrom s at ≡ packets []
@@ -46,16 +46,16 @@ module _ (s : List ℕ) where
 -- To show P of every walk over a datagram, show it at the end, at octets that are no packet, and with a packet in front.
 module _ (s : List ℕ) (P : ℕ → Parsed → Type 0) (end : (at : ℕ) → length s ≤ at → P at (packets []))
     (none : (at : ℕ) → NoPacketIn (drop at s) → P at broken)
-    (more : (at : ℕ) (p : RtcpPacket) (w : Parsed) → packetAt s at ≡ Packet p → P (behind p) w → P at (inFront p w)) where
+    (more : (at : ℕ) (p : RtcpPacket) (w : Parsed) → packetAt s at ≡ Packet p → P (packetEnd p) w → P at (inFront p w)) where
   walk-ind-by : (n at : ℕ) → length s ≤ n + at → P at (walk n s at)
   unfolding walk
   walk-ind-by zero at l = end at (omega arith)
   walk-ind-by (suc n) at l =
-      by-step (packetAt s at) refl (λ p f. walk-ind-by n (behind p) (omega (arith, found-more s at p f)))
+      by-step (packetAt s at) refl (λ p f. walk-ind-by n (packetEnd p) (omega (arith, found-more s at p f)))
     where
-      by-step : (k : PacketStep) → packetAt s at ≡ k → ((p : RtcpPacket) → packetAt s at ≡ Packet p → P (behind p) (walk n s (behind p)))
+      by-step : (k : PacketStep) → packetAt s at ≡ k → ((p : RtcpPacket) → packetAt s at ≡ Packet p → P (packetEnd p) (walk n s (packetEnd p)))
           → P at (onward k (λ i. walk n s i))
-      by-step (Packet p) f rest = more at p (walk n s (behind p)) f (rest p f)
+      by-step (Packet p) f rest = more at p (walk n s (packetEnd p)) f (rest p f)
       by-step End f rest = end at (ended s at f)
       by-step Broken f rest = none at (no-packet s at f)
 

@@ -1,19 +1,23 @@
--- Rules: "Datagram". What a datagram is, without the walk that finds its packets: they are back to
--- back, each is as long as its header says, and the padding flag is on the last alone.
+-- Rules: "Datagram", rules "Packets of a datagram" and "No datagram". What a datagram is, without
+-- the walk that finds its packets: they are back to back, each is as long as its header says, and
+-- the padding flag is on the last alone.
 use Prim.Native.Nat.{ℕ, _+_, _≤_, _<_}
 use mathlib.Core.Path.{_≡_}
 use mathlib.Core.List.{List, [], _∷_, _++_, flatten, dropLast}
 use lib.ListN.{length}
 use Rattle.lists.specs.All.{All}
-use Rattle.packet.specs.Packet as format
+use Rattle.packet.specs.Packet as packet
 use Rattle.packet_header.specs.Header.{versionOf, paddingOf, formatOf, typeOf, lengthOf}
 use Rattle.datagram.specs.declared.RtcpPacket.{RtcpPacket}
-use Rattle.datagram.specs.Walk.{rtcpHeaderOctets}
+
+-- the header of any RTCP packet
+abbrev pub rtcpHeaderOctets : ℕ
+rtcpHeaderOctets = 4
 
 -- an RTCP packet of any type: it has a header, its version is 2, and its octets are as many as the length field says
 pub record IsPacket (p : List ℕ) : Type 0 where
   pub header : rtcpHeaderOctets ≤ length p
-  pub version : versionOf p ≡ format.version
+  pub version : versionOf p ≡ packet.version
   pub words : lengthOf p ≡ length p
 
 -- the padding flag is 0
@@ -21,7 +25,7 @@ abbrev pub NoPadding : List ℕ → Type 0
 NoPadding p = paddingOf p ≡ 0
 
 -- the datagram s holds the packets ps: just these, back to back. A datagram of no octets holds none.
-pub record Holds (s : List ℕ) (ps : List (List ℕ)) : Type 0 where
+pub record HoldsPackets (s : List ℕ) (ps : List (List ℕ)) : Type 0 where
   pub joined : flatten ps ≡ s
   pub each : All IsPacket ps
   pub padding : All NoPadding (dropLast ps)
@@ -37,17 +41,21 @@ unfoldable pub placed : ℕ → List (List ℕ) → List RtcpPacket
 placed at [] = []
 placed at (p ∷ ps) = placedAt at p ∷ placed (at + length p) ps
 
--- ---- what is wrong with octets that are no datagram
+-- ---- octets that are no datagram
 
--- no packet stands in front of these octets, or it is padded and others follow
+-- no packets back to back make these octets
+abbrev pub NoDatagram : List ℕ → Type 0
+NoDatagram s = (ps : List (List ℕ)) → HoldsPackets s ps → ⊥
+
+-- what is wrong: these octets do not start with a packet, or it is padded and does not end them
 pub data NoPacketIn (rest : List ℕ) : Type 0 where
   fewOctets : 0 < length rest → length rest < rtcpHeaderOctets → NoPacketIn rest
-  otherVersion : rtcpHeaderOctets ≤ length rest → (versionOf rest ≡ format.version → ⊥) → NoPacketIn rest
+  otherVersion : rtcpHeaderOctets ≤ length rest → (versionOf rest ≡ packet.version → ⊥) → NoPacketIn rest
   pastTheEnd : rtcpHeaderOctets ≤ length rest → length rest < lengthOf rest → NoPacketIn rest
-  paddedInside : rtcpHeaderOctets ≤ length rest → lengthOf rest < length rest → (NoPadding rest → ⊥) → NoPacketIn rest
+  paddedEarly : rtcpHeaderOctets ≤ length rest → lengthOf rest < length rest → (NoPadding rest → ⊥) → NoPacketIn rest
 
--- behind some packets without padding, which may be none, stand octets with such a fault
-pub record FaultIn (s : List ℕ) : Type 0 where
+-- after some packets without padding, which may be none, come octets with such a fault
+pub record DatagramFault (s : List ℕ) : Type 0 where
   pub before : List (List ℕ)
   pub rest : List ℕ
   pub joined : flatten before ++ rest ≡ s

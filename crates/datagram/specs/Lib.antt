@@ -1,3 +1,3 @@
-pub mod Walk
 pub mod Datagram
+pub mod Walk
 pub mod Feedback

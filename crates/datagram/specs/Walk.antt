@@ -1,9 +1,9 @@
--- Rules: "Datagram". The walk over the packets of a datagram, which may be any octets: header by
--- header to the end, or to octets that are no packet. These are, in the order of their tests:
---   fewer than 4 octets are left
+-- Rules: "Datagram", rule "No datagram". The walk over the packets of a datagram, which may be any
+-- octets: header by header to the end, or to a fault. Faults, in the order of their tests:
+--   1 to 3 octets are left
 --   another version than 2
---   the length field reaches beyond the end
---   the padding flag is 1, and the packet does not end where the datagram ends
+--   the length field reaches past the end
+--   the padding flag is 1, and the packet does not end the datagram
 use Prim.Native.Nat.{ℕ, zero, suc, _+_}
 use mathlib.Core.Bool.{Bool, cond, _&&_}
 use mathlib.Core.List.{List, [], _∷_}
@@ -11,13 +11,10 @@ use lib.ListN.{length, take, drop}
 use lib.Dec.{eqb, ltb}
 use Rattle.packet.specs.Packet.{version}
 use Rattle.packet_header.specs.Header.{differ, versionOf, paddingOf, formatOf, typeOf, lengthOf}
+use Rattle.datagram.specs.Datagram.{rtcpHeaderOctets}
 use Rattle.datagram.specs.declared.RtcpPacket.{RtcpPacket}
 use Rattle.datagram.specs.declared.PacketStep.{PacketStep}
 use Rattle.datagram.specs.declared.PacketStep.the-variants.{Packet, End, Broken}
-
--- the header of any RTCP packet
-abbrev pub rtcpHeaderOctets : ℕ
-rtcpHeaderOctets = 4
 
 -- ---- the packet at an offset
 
@@ -25,10 +22,11 @@ rtcpHeaderOctets = 4
 abbrev pub packetHere : List ℕ → ℕ → RtcpPacket
 packetHere rest at = record { «packet_type» = typeOf rest; format = formatOf rest; at = at; size = lengthOf rest }
 
--- the padding flag, on a packet that others follow
+-- the padding flag, on a packet that octets follow
 abbrev pub paddedInside : List ℕ → Bool
 paddedInside rest = ltb (lengthOf rest) (length rest) && differ (paddingOf rest) 0
 
+-- what the octets from an offset on start with
 abbrev pub frontOf : List ℕ → ℕ → PacketStep
 frontOf rest at =
     cond (eqb (length rest) 0) End
@@ -42,13 +40,13 @@ frontOf rest at =
 unfoldable pub packetAt : List ℕ → ℕ → PacketStep
 packetAt s at = frontOf (drop at s) at
 
--- the octets of a packet
-abbrev pub packetOctets : List ℕ → RtcpPacket → List ℕ
-packetOctets s p = take (p .size) (drop (p .at) s)
+-- the part of the datagram that is a packet
+abbrev pub packetPart : List ℕ → RtcpPacket → List ℕ
+packetPart s p = take (p .size) (drop (p .at) s)
 
 -- ---- the walk
 
--- the packets of a datagram, or what is no datagram
+-- the packets of a datagram, or that the walk came to a fault
 pub data Parsed : Type 0 where
   packets : List RtcpPacket → Parsed
   broken : Parsed
@@ -57,12 +55,12 @@ abbrev pub inFront : RtcpPacket → Parsed → Parsed
 inFront p (packets ps) = packets (p ∷ ps)
 inFront p broken = broken
 
--- where the next packet starts
-abbrev pub behind : RtcpPacket → ℕ
-behind p = p .at + p .size
+-- where a packet ends, and the next one starts
+abbrev pub packetEnd : RtcpPacket → ℕ
+packetEnd p = p .at + p .size
 
 abbrev pub onward : PacketStep → (ℕ → Parsed) → Parsed
-onward (Packet p) rest = inFront p (rest (behind p))
+onward (Packet p) rest = inFront p (rest (packetEnd p))
 onward End rest = packets []
 onward Broken rest = broken
 

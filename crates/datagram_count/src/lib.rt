@@ -1,7 +1,7 @@
 // How many CCFB packets a datagram holds. It accepts any octets; the header alone tells a CCFB packet.
 ghost use mathlib.Core.Path.{_≡_};
 ghost use Rattle.datagram.specs.Walk.{packetsFrom, packetsOf};
-ghost use Rattle.datagram.specs.Feedback.{isFeedback};
+ghost use Rattle.datagram.specs.Feedback.{isCcfb};
 ghost use Rattle.datagram_count.specs.Count.{countOf};
 use datagram::PacketStep;
 use packet::FORMAT;
@@ -15,8 +15,8 @@ pub enum FeedbackCount {
 }
 
 // Whether these are the type and the FMT of a CCFB packet. Only our own crates call it.
-pub fn is_feedback(packet_type: u8, format: u8) -> bool
-    ensures value { λ r. ⌜ r ≡ isFeedback «packet_type» format ⌝ }
+pub fn is_ccfb(packet_type: u8, format: u8) -> bool
+    ensures value { λ r. ⌜ r ≡ isCcfb «packet_type» format ⌝ }
 {
     if packet_type != PACKET_TYPE {
         return false;
@@ -34,7 +34,7 @@ pub fn count_from(datagram: &[u8], from: usize) -> FeedbackCount
         let here = datagram_walk::next_packet(datagram, at);
         match here {
             PacketStep::Packet(p) => {
-                if is_feedback(p.packet_type, p.format) {
+                if is_ccfb(p.packet_type, p.format) {
                     n += 1;
                 }
                 at = p.at + p.size;

@@ -1,21 +1,22 @@
 -- Rules: "Datagram", rule "Packet by packet". The calls of `ccfb_next_packet`, from the offset 0 on,
--- give just the packets of a datagram, and of other octets they come to 31. Assumes nothing.
-use Prim.Native.Nat.{ℕ, _≤_}
-use mathlib.Core.Path.{_≡_, refl, ap, _∙_}
-use mathlib.Core.List.{List, [], _∷_, map}
+-- give just the packets of a datagram and then 32; of other octets the packets before the fault, and
+-- then 31. Assumes nothing.
+use Prim.Native.Nat.{ℕ, _+_, _≤_}
+use mathlib.Core.Path.{_≡_, refl, sym, ap, _∙_}
+use mathlib.Core.List.{List, [], _∷_, _++_, map, flatten, append-assoc}
 use native.Mathlib.Omega.{arith}
-use lib.ListN.{length, getD}
+use lib.ListN.{length, drop, getD}
+use Rattle.lists.specs.All.{All}
 use Rattle.ccfb_calls.specs.Called.{Called, refusedWith}
-use Rattle.datagram.specs.Walk.{packetAt, packetOctets, Parsed, packets, broken, inFront, behind, packetsFrom, packetsOf}
-use Rattle.datagram.specs.Datagram.{Holds, placed}
+use Rattle.datagram.specs.Walk.{packetAt, packetPart, Parsed, packets, broken, inFront, packetEnd, packetsFrom}
+use Rattle.datagram.specs.Datagram.{IsPacket, NoPadding, HoldsPackets, NoDatagram, NoPacketIn, DatagramFault, placedAt, placed}
 use Rattle.datagram.specs.declared.RtcpPacket.{RtcpPacket}
 use Rattle.datagram.specs.declared.PacketStep.{PacketStep}
 use Rattle.datagram.proofs.Steps.{step-end, step-none, found-within}
 use Rattle.datagram.proofs.Walks.{walk-packet, walk-end, walk-broken, walk-ind}
-use Rattle.datagram.proofs.Rules.{held-walked, walked-held, broken-none, none-broken}
-use Rattle.ccfb_datagram.specs.Datagrams.{packetCalled}
-use Rattle.datagram_laws.specs.Refused.{NoDatagram}
-use Rattle.datagram_laws.specs.Cursor.{nextCall, packetGiven, Gives, Stops}
+use Rattle.datagram.proofs.Rules.{drop-behind, step-packet, step-is, held-walked, walked-held, broken-none}
+use Rattle.ccfb_datagram.specs.Datagrams.{packetGiven, packetCalled}
+use Rattle.datagram_laws.specs.Cursor.{nextCall, CallsGive}
 use Rattle.refusal.specs.declared.Refusal.the-variants.{BadDatagram, NoPacket}
 use Rattle.datagram.specs.declared.PacketStep.the-variants.{Packet, End, Broken}
 
@@ -57,46 +58,62 @@ module _ (before : List ℕ) where
 
 module _ (s : List ℕ) where
   abbrev ByCalls : ℕ → Parsed → Type 0
-  ByCalls at (packets bs) = Gives s at bs
-  ByCalls at broken = Stops s at
+  ByCalls at (packets bs) = CallsGive s NoPacket at bs
+  ByCalls at broken = Unit {0}
 
-  calls-packet : (at : ℕ) (p : RtcpPacket) (w : Parsed) → packetAt s at ≡ Packet p → ByCalls (behind p) w → ByCalls at (inFront p w)
-  calls-packet at p (packets bs) e g = Gives.next {at = at} p (λ others. rw e) g
-  calls-packet at p broken e g = Stops.next {at = at} p (λ others. rw e) g
+  calls-packet : (at : ℕ) (p : RtcpPacket) (w : Parsed) → packetAt s at ≡ Packet p → ByCalls (packetEnd p) w → ByCalls at (inFront p w)
+  calls-packet at p (packets bs) e g = CallsGive.next {at = at} p (λ others. rw e) g
+  calls-packet at p broken e g = tt
 
   by-calls : (at : ℕ) → ByCalls at (packetsFrom s at)
-  by-calls =
-      walk-ind s ByCalls
-      (λ at l. Gives.end {at = at} (λ others. rw (← step-end s at l)))
-      (λ at n. Stops.here {at = at} (λ others. rw (← step-none s at n))) calls-packet
+  by-calls = walk-ind s ByCalls (λ at l. CallsGive.end {at = at} (λ others. rw (← step-end s at l))) (λ at n. tt) calls-packet
 
-  gives-walked : {at : ℕ} {bs : List RtcpPacket} → Gives s at bs → packetsFrom s at ≡ packets bs
-  gives-walked (Gives.end {at} e) = walk-end s at (packetAt s at) refl (called-end (at ∷ []) (packetAt s at) (e []))
-  gives-walked (Gives.next {at} b e g) =
+  gives-walked : {at : ℕ} {bs : List RtcpPacket} → CallsGive s NoPacket at bs → packetsFrom s at ≡ packets bs
+  gives-walked (CallsGive.end {at} e) = walk-end s at (packetAt s at) refl (called-end (at ∷ []) (packetAt s at) (e []))
+  gives-walked (CallsGive.next {at} b e g) =
       walk-packet s at (packetAt s at) refl b (called-packet (at ∷ []) b (packetAt s at) (e [])) ∙ ap (inFront b) (gives-walked g)
 
-  stops-broken : {at : ℕ} → Stops s at → packetsFrom s at ≡ broken
-  stops-broken (Stops.here {at} e) = walk-broken s at (packetAt s at) refl (called-broken (at ∷ []) (packetAt s at) (e []))
-  stops-broken (Stops.next {at} b e g) =
+  stops-broken : {at : ℕ} {bs : List RtcpPacket} → CallsGive s BadDatagram at bs → packetsFrom s at ≡ broken
+  stops-broken (CallsGive.end {at} e) = walk-broken s at (packetAt s at) refl (called-broken (at ∷ []) (packetAt s at) (e []))
+  stops-broken (CallsGive.next {at} b e g) =
       walk-packet s at (packetAt s at) refl b (called-packet (at ∷ []) b (packetAt s at) (e [])) ∙ ap (inFront b) (stops-broken g)
+
+  -- packets without padding, and then a fault
+  fault-from : (at : ℕ) (ps : List (List ℕ)) (rest : List ℕ) → flatten ps ++ rest ≡ drop at s → All IsPacket ps → All NoPadding ps
+      → NoPacketIn rest → CallsGive s BadDatagram at (placed at ps)
+  unfolding flatten placed
+  fault-from at [] rest e i n f = CallsGive.end {at = at} (λ others. rw (← step-none s at (rw e at f)))
+  fault-from at (p ∷ ps) rest e i n f =
+      let here : p ++ (flatten ps ++ rest) ≡ drop at s = sym (append-assoc p (flatten ps) rest) ∙ e in
+      let step = step-packet s at p (flatten ps ++ rest) here (record { packet = i .0; padding = λ l. n .0 }) in
+      CallsGive.next {at = at} (placedAt at p) (λ others. rw (← step))
+      (fault-from (at + length p) ps rest (sym (drop-behind s at p (flatten ps ++ rest) here)) (i .1) (n .1) f)
 
   -- ---- the rules
 
-  -- from 0 on the calls give the packets that a datagram holds, where they stand
-  pub held-gives : (ps : List (List ℕ)) → Holds s ps → Gives s 0 (placed 0 ps)
+  -- from 0 on the calls give the packets that a datagram holds, where they stand, and then 32
+  pub held-gives : (ps : List (List ℕ)) → HoldsPackets s ps → CallsGive s NoPacket 0 (placed 0 ps)
   held-gives ps h = rw (held-walked s ps h) at (by-calls 0)
 
-  -- what they give up to 32 is the packets of a datagram, where they stand
-  pub gives-held : (bs : List RtcpPacket) → Gives s 0 bs → Holds s (map (packetOctets s) bs) × (placed 0 (map (packetOctets s) bs) ≡ bs)
+  -- what they give before 32 is the packets of a datagram, where they stand
+  pub gives-held : (bs : List RtcpPacket) → CallsGive s NoPacket 0 bs → HoldsPackets s (map (packetPart s) bs) × (placed 0 (map (packetPart s) bs) ≡ bs)
   gives-held bs g = walked-held s bs (gives-walked g)
 
-  -- they come to 31 exactly if the octets are no datagram
-  pub none-stops : NoDatagram s → Stops s 0
-  none-stops n = rw (none-broken s n) at (by-calls 0)
+  -- of octets with a fault they give the packets before it, and then 31
+  pub fault-gives : (f : DatagramFault s) → CallsGive s BadDatagram 0 (placed 0 (f .before))
+  fault-gives f = fault-from 0 (f .before) (f .rest) (f .joined) (f .each) (f .padding) (f .fault)
 
-  pub stops-none : Stops s 0 → NoDatagram s
-  stops-none g = broken-none s (stops-broken g)
+  -- they come to 31 only if the octets are no datagram
+  pub gives-none : (bs : List RtcpPacket) → CallsGive s BadDatagram 0 bs → NoDatagram s
+  gives-none bs g = broken-none s (stops-broken g)
 
-  -- each packet that a call gives, at any offset, lies within the octets
-  pub given-within : (at : ℕ) (others : List ℕ) (p : RtcpPacket) → nextCall s at others ≡ packetGiven p → behind p ≤ length s
-  given-within at others p e = found-within s at p (called-packet (at ∷ others) p (packetAt s at) e)
+  -- what a call gives at any offset is a packet, at that offset and within the octets
+  module _ (at : ℕ) (others : List ℕ) (p : RtcpPacket) (e : nextCall s at others ≡ packetGiven p) where
+    stands : packetAt s at ≡ Packet p
+    stands = called-packet (at ∷ others) p (packetAt s at) e
+
+    pub given-is : IsPacket (packetPart s p) × (placedAt at (packetPart s p) ≡ p)
+    given-is = step-is s at p stands
+
+    pub given-within : packetEnd p ≤ length s
+    given-within = found-within s at p stands

@@ -12,20 +12,20 @@ use Rattle.packet.specs.Packet.{Packet}
 use Rattle.reader.specs.Reading.{Decoded, packet, refused, decodePacket}
 use Rattle.ccfb_calls.specs.Called.{called}
 use Rattle.call_laws.proofs.Calls.{answers, numbers}
-use Rattle.datagram.specs.Datagram.{Holds, placedAt}
+use Rattle.datagram.specs.Datagram.{HoldsPackets, placedAt}
 use Rattle.datagram.specs.Feedback.{KthFeedback}
 use Rattle.datagram.specs.declared.RtcpPacket.{RtcpPacket}
 use Rattle.datagram_reader.specs.Reading.{acceptedAs, readFeedback, feedbackPart, feedbackRefusal}
 use Rattle.datagram_reader.specs.declared.FeedbackAnswer.{FeedbackAnswer}
 use Rattle.ccfb_datagram.specs.Datagrams.{feedbackCalled}
-use Rattle.datagram_laws.specs.Found.{FoundKth, ReadsAs, PlaceGiven}
+use Rattle.datagram.proofs.Rules.{held-cases}
+use Rattle.datagram_laws.specs.Found.{FoundKth, ReadsAs, PacketPlaced}
 use Rattle.datagram_laws.proofs.Kth.{Kth, there, past, kth, kth-octets, kth-within, read-past, read-kth}
-use Rattle.datagram_laws.proofs.Refusals.{held-cases}
 use Rattle.datagram_reader.specs.declared.FeedbackAnswer.the-variants.{Found, Refused}
 
 module _ (s : List ℕ) (k : ℕ) where
   -- packet k is found, at its place, if the reader accepts it
-  pub found-feedback : (ps : List (List ℕ)) (p : List ℕ) (q : Packet) → Holds s ps → (x : KthFeedback ps k p) → decodePacket p ≡ packet q
+  pub found-feedback : (ps : List (List ℕ)) (p : List ℕ) (q : Packet) → HoldsPackets s ps → (x : KthFeedback ps k p) → decodePacket p ≡ packet q
       → readFeedback s k ≡ Found (placedAt (length (flatten (x .before))) p)
   found-feedback ps p q h x d = read-kth s ps h k p x ∙ rw d
 
@@ -33,7 +33,7 @@ module _ (s : List ℕ) (k : ℕ) where
   pub feedback-found : (b : RtcpPacket) → readFeedback s k ≡ Found b → FoundKth s k b
   feedback-found b r = held-cases s (λ ps h. by-kth ps h (kth ps k)) (λ e. let z = rw e at r in never (cc))
     where
-      by-reader : (ps : List (List ℕ)) → Holds s ps → (p : List ℕ) (x : KthFeedback ps k p) (d : Decoded) → decodePacket p ≡ d
+      by-reader : (ps : List (List ℕ)) → HoldsPackets s ps → (p : List ℕ) (x : KthFeedback ps k p) (d : Decoded) → decodePacket p ≡ d
           → acceptedAs (placedAt (length (flatten (x .before))) p) d ≡ Found b → FoundKth s k b
       by-reader ps h p x (packet q) f z =
           let place : b ≡ placedAt (length (flatten (x .before))) p = cc in
@@ -50,7 +50,7 @@ module _ (s : List ℕ) (k : ℕ) where
           }
       by-reader ps h p x (refused e) f z = never (cc)
 
-      by-kth : (ps : List (List ℕ)) → Holds s ps → Kth ps k → FoundKth s k b
+      by-kth : (ps : List (List ℕ)) → HoldsPackets s ps → Kth ps k → FoundKth s k b
       by-kth ps h (there p x) = by-reader ps h p x (decodePacket p) refl (sym (read-kth s ps h k p x) ∙ r)
       by-kth ps h (past l) = let z = read-past s ps h k l in never (cc)
 
@@ -70,10 +70,10 @@ module _ (s : List ℕ) (k : ℕ) where
 
   -- ---- what C is given
 
-  pub place-given : (given at size : ℕ) → feedbackCalled (readFeedback s k) ≡ called given (at ∷ size ∷ []) → PlaceGiven s k given at size
-  place-given given at size h = by-answer (readFeedback s k) refl h
+  pub packet-placed : (given at size : ℕ) → feedbackCalled (readFeedback s k) ≡ called given (at ∷ size ∷ []) → PacketPlaced s k given at size
+  packet-placed given at size h = by-answer (readFeedback s k) refl h
     where
-      by-answer : (a : FeedbackAnswer) → readFeedback s k ≡ a → feedbackCalled a ≡ called given (at ∷ size ∷ []) → PlaceGiven s k given at size
+      by-answer : (a : FeedbackAnswer) → readFeedback s k ≡ a → feedbackCalled a ≡ called given (at ∷ size ∷ []) → PacketPlaced s k given at size
       by-answer (Found b) f h =
           let found = feedback-found b f in
           let n : given ≡ 0 = sym (answers h) in

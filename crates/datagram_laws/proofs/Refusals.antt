@@ -18,17 +18,17 @@ use Rattle.packet_laws.specs.Refused.{Long, Typed, Fault, ReadingGiven}
 use Rattle.packet_laws.proofs.Refusals.{refused-given, given-refused}
 use Rattle.ccfb_calls.specs.Called.{refusedWith}
 use Rattle.call_laws.proofs.Numbers.{own-number, not-zero}
-use Rattle.datagram.specs.Walk.{packetAt, packetOctets, Parsed, packets, broken, packetsOf}
-use Rattle.datagram.specs.Datagram.{IsPacket, NoPadding, Holds, FaultIn}
-use Rattle.datagram.specs.Feedback.{isFeedback, feedbackIn, KthFeedback}
+use Rattle.datagram.specs.Walk.{packetAt, packetPart, Parsed, packets, broken, packetsOf}
+use Rattle.datagram.specs.Datagram.{IsPacket, NoPadding, HoldsPackets, NoDatagram, DatagramFault}
+use Rattle.datagram.specs.Feedback.{isCcfb, octetsAreCcfb, feedbackIn, KthFeedback}
 use Rattle.datagram.specs.declared.RtcpPacket.{RtcpPacket}
 use Rattle.datagram.specs.declared.PacketStep.{PacketStep}
 use Rattle.datagram.proofs.Steps.{front-none, step-end, ended, no-packet}
-use Rattle.datagram.proofs.Rules.{held-walked, walked-held, broken-fault, fault-broken, broken-none, none-broken, placed-count}
+use Rattle.datagram.proofs.Rules.{held-walked, held-cases, broken-fault, fault-broken, broken-none, none-broken, placed-count}
 use Rattle.datagram_count.specs.Count.{countOf}
 use Rattle.datagram_reader.specs.Reading.{acceptedAs, readFeedback}
 use Rattle.ccfb_datagram.specs.Datagrams.{packetCalled}
-use Rattle.datagram_laws.specs.Refused.{NoDatagram, CountGiven, FeedbackGiven, PacketGiven, OneOf, feedbackNumbers}
+use Rattle.datagram_laws.specs.Refused.{CountGiven, FeedbackGiven, PacketGiven, OneOf, feedbackNumbers}
 use Rattle.datagram_laws.proofs.Kth.{Kth, there, past, kth, kth-all, kth-count, read-past, read-kth}
 use Rattle.refusal.specs.declared.Refusal.the-variants.{PacketTooShort, Padded, BadDatagram, NoPacket}
 use Rattle.datagram.specs.declared.PacketStep.the-variants.{Packet, End, Broken}
@@ -38,19 +38,11 @@ use Rattle.packet_laws.specs.Refused as reading
 use Rattle.datagram_laws.specs.Refused as given
 
 -- the header of a CCFB packet has its type and FMT
-typed : (t f : ℕ) → isFeedback t f ≡ true → (t ≡ packetType) × (f ≡ format)
+typed : (t f : ℕ) → isCcfb t f ≡ true → (t ≡ packetType) × (f ≡ format)
 typed t f h =
     split-eq t packetType
     (λ e. split-eq f format (λ g. (e, g)) (λ g. let z = simp (eq-eqb t packetType e, ne-eqb f format g) at h in never (cc)))
     (λ e. let z = simp (ne-eqb t packetType e) at h in never (cc))
-
--- octets are a datagram, or they are none
-pub held-cases : {P : Type 0} (s : List ℕ) → ((ps : List (List ℕ)) → Holds s ps → P) → (packetsOf s ≡ broken → P) → P
-held-cases {P} s held none = by-walk (packetsOf s) refl
-  where
-    by-walk : (w : Parsed) → packetsOf s ≡ w → P
-    by-walk (packets bs) e = held (map (packetOctets s) bs) (walked-held s bs e .0)
-    by-walk broken e = none e
 
 -- the reader's refusals of a CCFB packet: its version, type, FMT and length are right
 module _ (p : List ℕ) where
@@ -70,19 +62,19 @@ module _ (p : List ℕ) where
 
 module _ (s : List ℕ) where
   -- octets are no datagram exactly if there is a fault in them
-  pub none-fault : NoDatagram s → FaultIn s
+  pub none-fault : NoDatagram s → DatagramFault s
   none-fault n = broken-fault s (none-broken s n)
 
-  pub fault-none : FaultIn s → NoDatagram s
+  pub fault-none : DatagramFault s → NoDatagram s
   fault-none f = broken-none s (fault-broken s f)
 
   -- ---- how many CCFB packets
 
   -- as many as there are among the packets of the datagram, whether or not the reader accepts them
-  pub counted : (ps : List (List ℕ)) → Holds s ps → countOf (packetsOf s) ≡ count.Packets (length (feedbackIn ps))
+  pub counted : (ps : List (List ℕ)) → HoldsPackets s ps → countOf (packetsOf s) ≡ count.Packets (length (feedbackIn ps))
   counted ps h = rw (held-walked s ps h, placed-count 0 ps)
 
-  pub counted-held : (n : ℕ) → countOf (packetsOf s) ≡ count.Packets n → (ps : List (List ℕ)) × (Holds s ps × (n ≡ length (feedbackIn ps)))
+  pub counted-held : (n : ℕ) → countOf (packetsOf s) ≡ count.Packets n → (ps : List (List ℕ)) × (HoldsPackets s ps × (n ≡ length (feedbackIn ps)))
   counted-held n e =
       held-cases s (λ ps h. (ps, (h, let z = counted ps h in cc))) (λ b. let z = rw b at e in never (cc))
 
@@ -104,14 +96,14 @@ module _ (s : List ℕ) where
       held-cases s (λ ps h. by-kth ps h (kth ps k))
       (λ b. let z = rw b at r in let y : BadDatagram ≡ e = cc in subst (FeedbackGiven s k) y (given.FeedbackGiven.badDatagram (broken-none s b)))
     where
-      by-reader : (ps : List (List ℕ)) (h : Holds s ps) (p : List ℕ) (x : KthFeedback ps k p) (d : Decoded) → decodePacket p ≡ d
+      by-reader : (ps : List (List ℕ)) (h : HoldsPackets s ps) (p : List ℕ) (x : KthFeedback ps k p) (d : Decoded) → decodePacket p ≡ d
           → (b : RtcpPacket) → acceptedAs b d ≡ answer.Refused e → FeedbackGiven s k e
       by-reader ps h p x (packet q) f b z = never (cc)
       by-reader ps h p x (refused g) f b z =
           let y : g ≡ e = cc in
           given.reader ps p h x (refused-given p e (f ∙ ap refused y))
 
-      by-kth : (ps : List (List ℕ)) → Holds s ps → Kth ps k → FeedbackGiven s k e
+      by-kth : (ps : List (List ℕ)) → HoldsPackets s ps → Kth ps k → FeedbackGiven s k e
       by-kth ps h (there p x) = by-reader ps h p x (decodePacket p) refl _ (sym (read-kth s ps h k p x) ∙ r)
       by-kth ps h (past l) =
           let z = read-past s ps h k l in
@@ -129,12 +121,12 @@ module _ (s : List ℕ) where
   feedback-numbers k e (given.FeedbackGiven.badDatagram n) = inl refl
   feedback-numbers k e (given.noPacket ps h l) = inr (inl refl)
   feedback-numbers k e (given.reader ps p h x g) =
-      reading-numbers p e (kth-all ps k p x IsPacket (h .each)) (typed (typeOf p) (formatOf p) (x .feedback)) g
+      reading-numbers p e (kth-all ps k p x IsPacket (h .each)) (typed (typeOf p) (formatOf p) (x .ccfb)) g
 
   -- a last CCFB packet with the padding flag is counted, and is refused with 25
-  module _ (ps : List (List ℕ)) (p : List ℕ) (held : Holds s (ps ++ p ∷ [])) (is : isFeedback (typeOf p) (formatOf p) ≡ true) where
+  module _ (ps : List (List ℕ)) (p : List ℕ) (held : HoldsPackets s (ps ++ p ∷ [])) (is : octetsAreCcfb p ≡ true) where
     last-kth : KthFeedback (ps ++ p ∷ []) (length (feedbackIn ps)) p
-    last-kth = record { before = ps; after = []; order = refl; feedback = is; count = refl }
+    last-kth = record { before = ps; after = []; order = refl; ccfb = is; count = refl }
 
     last-refused : (e : Refusal) → ReadingGiven p e → readFeedback s (length (feedbackIn ps)) ≡ answer.Refused e
     last-refused e g = feedback-given-refused (length (feedbackIn ps)) e (given.reader (ps ++ p ∷ []) p held last-kth g)

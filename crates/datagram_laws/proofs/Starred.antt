@@ -7,10 +7,11 @@ use Rattle.packet_header.specs.Header.{startOf}
 use Rattle.walk.specs.Walk.{stepAt, walkOf}
 use Rattle.reader.specs.Reading.{decodePacket}
 use Rattle.datagram.specs.Walk.{packetAt}
-use Rattle.datagram_laws.specs.Starred.{ccfb, padded, nack, bye, cut, CaseHolds, cases}
+use Rattle.datagram_laws.specs.Starred.{ccfb, padded, nack, bye, other, oldVersion, tooLong, cut, CaseHolds, cases}
 use Rattle.walk.specs.Walk as blocks
 use Rattle.datagram.specs.Walk as packets
 
 pub starred : All CaseHolds cases
-unfolding cases ccfb padded nack bye cut kept be16 be32 startOf stepAt walkOf decodePacket packetAt blocks.walk packets.walk
-starred = ((refl, refl), ((refl, refl), ((refl, refl), ((refl, refl), ((refl, refl), ((refl, refl), ((refl, refl), ((refl, refl), ((refl, refl), ((refl, refl), tt))))))))))
+unfolding cases ccfb padded nack bye other oldVersion tooLong cut kept be16 be32 startOf stepAt walkOf decodePacket packetAt blocks.walk packets.walk
+starred =
+    ((refl, refl), ((refl, refl), ((refl, refl), ((refl, refl), ((refl, refl), ((refl, refl), ((refl, refl), ((refl, refl), ((refl, refl), ((refl, refl), ((refl, refl), ((refl, refl), ((refl, refl), tt)))))))))))))

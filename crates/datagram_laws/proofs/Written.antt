@@ -1,16 +1,17 @@
 -- Rules: "Datagram", rule "Written packets". What the writer wrote is a datagram, alone and behind
--- other packets, and each written packet is found in it. Of the writer only the record `Report` of
--- writer_laws is used. Assumes nothing.
+-- other packets, and each written packet is found in it. All follows from the record `Report` of
+-- writer_laws. Assumes nothing.
 use Prim.Native.Nat.{ℕ, zero, suc, _+_, _≤_, _<_}
-use mathlib.Core.Bool.{Bool, true, false}
+use mathlib.Core.Bool.{true}
 use mathlib.Core.Path.{_≡_, refl, sym, ap, _∙_}
-use mathlib.Core.List.{List, [], _∷_, _++_, map, flatten, dropLast, append-assoc}
+use mathlib.Core.List.{List, [], _∷_, _++_, map, flatten, append-assoc}
 use native.Mathlib.Omega.{arith}
 use lib.ListN.{length, take, drop, getD, length-append, length-drop, take-append-drop}
 use lib.Seq.{split-at, length-take-le}
 use borrow.Author.Tests.{eq-eqb}
 use Rattle.lists.specs.All.{All}
 use Rattle.lists.proofs.All.{all-map, all-left, all-right, all-join, all-but-last}
+use Rattle.lists.proofs.Flatten.{flatten-append}
 use Rattle.lists.proofs.Kept.{kept-behind}
 use Rattle.lists.proofs.Cases.{never}
 use Rattle.octets.specs.Octets.{be16}
@@ -27,12 +28,12 @@ use Rattle.writer_laws.specs.Read.{firstOctets, walkLengths, packetsIn, InBits,
 use Rattle.writer_laws.proofs.Theorems.{report}
 use Rattle.ccfb_calls.specs.Called.{called}
 use Rattle.call_laws.specs.Part.{octetsAt}
-use Rattle.datagram.specs.Datagram.{IsPacket, NoPadding, Holds, placedAt}
-use Rattle.datagram.specs.Feedback.{isFeedback, feedbackIn, KthFeedback}
+use Rattle.datagram.specs.Datagram.{IsPacket, NoPadding, HoldsPackets, placedAt}
+use Rattle.datagram.specs.Feedback.{octetsAreCcfb, feedbackIn, KthFeedback}
 use Rattle.datagram_reader.specs.Reading.{readFeedback}
 use Rattle.ccfb_datagram.specs.Datagrams.{feedbackCalled}
 use Rattle.datagram_laws.specs.Written.{Other, behindFront, EndsWritten, writtenPacket, writtenAt, CallsFind}
-use Rattle.datagram_laws.proofs.Kth.{flatten-append, kth-octets, read-past}
+use Rattle.datagram_laws.proofs.Kth.{kth-octets, read-past}
 use Rattle.datagram_laws.proofs.Refusals.{counted}
 use Rattle.datagram_laws.proofs.Found.{found-feedback}
 use Rattle.sound_writer.specs.declared.Answer.the-variants.{Written}
@@ -71,7 +72,7 @@ module _ (p : List ℕ) (a : Accepted p) where
       let h = accepted-header in
       record { header = omega (arith, h .long); version = h .version; words = h .words }
 
-  accepted-feedback : isFeedback (typeOf p) (formatOf p) ≡ true
+  accepted-feedback : octetsAreCcfb p ≡ true
   accepted-feedback =
       let h = accepted-header in
       simp (eq-eqb (typeOf p) 205 (h .type), eq-eqb (formatOf p) 11 (h .format))
@@ -79,7 +80,7 @@ module _ (p : List ℕ) (a : Accepted p) where
 -- ---- other packets, and then packets that the reader accepts
 
 module _ (front : List (List ℕ)) (written : List ℕ) (others : All Other front) (each : All Accepted (packetsIn written)) where
-  held : Holds (behindFront front written) (front ++ packetsIn written)
+  held : HoldsPackets (behindFront front written) (front ++ packetsIn written)
   held =
       let joined =
       flatten-append front (packetsIn written) ∙ ap (λ r. flatten front ++ r) (lengths-joined (length written) written (omega arith)) in
@@ -92,7 +93,7 @@ module _ (front : List (List ℕ)) (written : List ℕ) (others : All Other fron
   -- the CCFB packets are those behind the packets in front
   feedback : (ps : List (List ℕ)) → All Accepted ps → feedbackIn (front ++ ps) ≡ ps
   feedback ps a =
-      kept-behind (λ p. isFeedback (typeOf p) (formatOf p)) front ps (all-map front (λ p o. o .other) others) (all-map ps accepted-feedback a)
+      kept-behind octetsAreCcfb front ps (all-map front (λ p o. o .other) others) (all-map ps accepted-feedback a)
 
   -- a written packet
   module _ (before : List (List ℕ)) (p : List ℕ) (after : List (List ℕ)) (split : packetsIn written ≡ before ++ p ∷ after) where
@@ -108,7 +109,7 @@ module _ (front : List (List ℕ)) (written : List ℕ) (others : All Other fron
           before = front ++ before;
           after = after;
           order = ap (λ (r : List (List ℕ)). front ++ r) split ∙ sym (append-assoc front before (p ∷ after));
-          feedback = accepted-feedback p accepted-here;
+          ccfb = accepted-feedback p accepted-here;
           count = ap length (feedback before (all-left Accepted before (p ∷ after) all));
         }
 

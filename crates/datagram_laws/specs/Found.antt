@@ -11,8 +11,8 @@ use Rattle.reader.specs.Reading.{packet, decodePacket, readOf}
 use Rattle.block_reader.specs.Blocks.{readBlock}
 use Rattle.metric_reader.specs.Metrics.{metricsPart, readMetric}
 use Rattle.call_laws.specs.Part.{octetsAt}
-use Rattle.datagram.specs.Walk.{behind}
-use Rattle.datagram.specs.Datagram.{Holds, placedAt}
+use Rattle.datagram.specs.Walk.{packetEnd}
+use Rattle.datagram.specs.Datagram.{HoldsPackets, placedAt}
 use Rattle.datagram.specs.Feedback.{KthFeedback}
 use Rattle.datagram.specs.declared.RtcpPacket.{RtcpPacket}
 use Rattle.datagram_reader.specs.Reading.{readFeedback, feedbackPart, feedbackRefusal}
@@ -24,10 +24,10 @@ use Rattle.datagram_reader.specs.declared.FeedbackAnswer.the-variants as answer
 pub record FoundKth (s : List ℕ) (k : ℕ) (b : RtcpPacket) : Type 0 where
   pub packets : List (List ℕ)
   pub octets : List ℕ
-  pub held : Holds s packets
+  pub held : HoldsPackets s packets
   pub kth : KthFeedback packets k octets
   pub place : b ≡ placedAt (length (flatten (kth .before))) octets
-  pub within : behind b ≤ length s
+  pub within : packetEnd b ≤ length s
   pub stands : octetsAt s (b .at) (b .size) ≡ octets
   pub reading : Packet
   pub accepted : decodePacket octets ≡ packet reading
@@ -42,7 +42,7 @@ pub record ReadsAs (part octets : List ℕ) : Type 0 where
 -- what `ccfb_feedback` answers, and the offset and the length that it gives, belong to CCFB packet
 -- k: the octets there are the part that `feedback_part` returns, they lie within s, and the answer
 -- is the number that it gives beside the part
-pub record PlaceGiven (s : List ℕ) (k given at size : ℕ) : Type 0 where
+pub record PacketPlaced (s : List ℕ) (k given at size : ℕ) : Type 0 where
   pub part : octetsAt s at size ≡ feedbackPart (readFeedback s k) s
   pub octets : length (feedbackPart (readFeedback s k) s) ≡ size
   pub within : at + size ≤ length s

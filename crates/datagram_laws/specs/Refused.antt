@@ -7,14 +7,10 @@ use mathlib.Core.Logic.{_⊎_}
 use mathlib.Core.List.{List, [], _∷_}
 use lib.ListN.{length, drop}
 use Rattle.refusal.specs.declared.Refusal.{Refusal}
-use Rattle.datagram.specs.Datagram.{Holds, NoPacketIn}
+use Rattle.datagram.specs.Datagram.{HoldsPackets, NoDatagram, NoPacketIn}
 use Rattle.datagram.specs.Feedback.{feedbackIn, KthFeedback}
 use Rattle.packet_laws.specs.Refused.{ReadingGiven}
 use Rattle.refusal.specs.declared.Refusal.the-variants.{BadDatagram, NoPacket}
-
--- no packets back to back make these octets; then there is a fault in them (`FaultIn`)
-abbrev pub NoDatagram : List ℕ → Type 0
-NoDatagram s = (ps : List (List ℕ)) → Holds s ps → ⊥
 
 -- how many CCFB packets: 31 alone
 pub data CountGiven (s : List ℕ) : Refusal → Type 0 where
@@ -23,8 +19,8 @@ pub data CountGiven (s : List ℕ) : Refusal → Type 0 where
 -- CCFB packet k: 31, 32, then the reader's refusal of that packet
 pub data FeedbackGiven (s : List ℕ) (k : ℕ) : Refusal → Type 0 where
   badDatagram : NoDatagram s → FeedbackGiven s k BadDatagram
-  noPacket : (ps : List (List ℕ)) → Holds s ps → length (feedbackIn ps) ≤ k → FeedbackGiven s k NoPacket
-  reader : {e : Refusal} (ps : List (List ℕ)) (p : List ℕ) → Holds s ps → KthFeedback ps k p → ReadingGiven p e → FeedbackGiven s k e
+  noPacket : (ps : List (List ℕ)) → HoldsPackets s ps → length (feedbackIn ps) ≤ k → FeedbackGiven s k NoPacket
+  reader : {e : Refusal} (ps : List (List ℕ)) (p : List ℕ) → HoldsPackets s ps → KthFeedback ps k p → ReadingGiven p e → FeedbackGiven s k e
 
 -- the packet at an offset: 31 where no packet stands there, 32 at the end and beyond
 pub data PacketGiven (s : List ℕ) (at : ℕ) : Refusal → Type 0 where

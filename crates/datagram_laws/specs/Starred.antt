@@ -2,7 +2,7 @@
 use Prim.Native.Nat.{ℕ}
 use mathlib.Core.Path.{_≡_}
 use mathlib.Core.List.{List, [], _∷_, _++_}
-use Rattle.packet.specs.Packet.{packetType}
+use Rattle.packet.specs.Packet.{packetType, format}
 use Rattle.datagram.specs.Walk.{packetsOf}
 use Rattle.datagram_count.specs.Count.{countOf}
 use Rattle.datagram_count.specs.declared.FeedbackCount.{FeedbackCount}
@@ -25,6 +25,16 @@ nack = 0x81 ∷ 205 ∷ 0 ∷ 3 ∷ 0 ∷ 0 ∷ 0 ∷ 0xf1 ∷ 0 ∷ 0 ∷ 0x0a 
 unfoldable pub bye : List ℕ
 bye = 0x80 ∷ 203 ∷ 0 ∷ 0 ∷ []
 
+-- feedback of type 206, with FMT 11; a BYE of version 1; a BYE whose length field says 8 octets
+unfoldable pub other : List ℕ
+other = 0x8b ∷ 206 ∷ 0 ∷ 0 ∷ []
+
+unfoldable pub oldVersion : List ℕ
+oldVersion = 0x40 ∷ 203 ∷ 0 ∷ 0 ∷ []
+
+unfoldable pub tooLong : List ℕ
+tooLong = 0x80 ∷ 203 ∷ 0 ∷ 1 ∷ []
+
 -- three octets of a packet
 unfoldable pub cut : List ℕ
 cut = 0x80 ∷ 203 ∷ 0 ∷ []
@@ -46,7 +56,7 @@ refused s = case s (count.Refused BadDatagram) (answer.Refused BadDatagram)
 
 -- CCFB packet 0 is the 12 octets at an offset
 abbrev pub foundAt : ℕ → FeedbackAnswer
-foundAt at = answer.Found (record { «packet_type» = packetType; format = 11; at = at; size = 12 })
+foundAt at = answer.Found (record { «packet_type» = packetType; format = format; at = at; size = 12 })
 
 unfoldable pub cases : List Case
 cases =
@@ -54,6 +64,9 @@ cases =
     ∷ case bye (count.Packets 0) (answer.Refused NoPacket)
     ∷ refused cut
     ∷ refused (bye ++ cut)
+    ∷ refused (bye ++ oldVersion)
+    ∷ refused (bye ++ tooLong)
+    ∷ case other (count.Packets 0) (answer.Refused NoPacket)
     ∷ case (bye ++ ccfb) (count.Packets 1) (foundAt 4)
     ∷ case (nack ++ ccfb) (count.Packets 1) (foundAt 16)
     ∷ case padded (count.Packets 1) (answer.Refused Padded)

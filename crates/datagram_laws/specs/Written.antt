@@ -6,11 +6,10 @@ use mathlib.Core.Bool.{false}
 use mathlib.Core.List.{List, [], _∷_, _++_, flatten}
 use lib.ListN.{length, take, getD}
 use Rattle.refusal.specs.Numbers.{numberOf}
-use Rattle.packet_header.specs.Header.{formatOf, typeOf}
 use Rattle.writer_laws.specs.Read.{packetsIn}
 use Rattle.datagram.specs.Walk.{packetsOf}
-use Rattle.datagram.specs.Datagram.{IsPacket, NoPadding, Holds, placedAt}
-use Rattle.datagram.specs.Feedback.{isFeedback, feedbackIn}
+use Rattle.datagram.specs.Datagram.{IsPacket, NoPadding, HoldsPackets, placedAt}
+use Rattle.datagram.specs.Feedback.{octetsAreCcfb, feedbackIn}
 use Rattle.datagram_count.specs.Count.{countOf}
 use Rattle.datagram_count.specs.declared.FeedbackCount.the-variants.{Packets}
 use Rattle.datagram_reader.specs.Reading.{readFeedback}
@@ -24,7 +23,7 @@ use Rattle.call_laws.specs.Part.{octetsAt}
 pub record Other (p : List ℕ) : Type 0 where
   pub is : IsPacket p
   pub unpadded : NoPadding p
-  pub other : isFeedback (typeOf p) (formatOf p) ≡ false
+  pub other : octetsAreCcfb p ≡ false
 
 -- the packets of `front`, and then what was written
 abbrev pub behindFront : List (List ℕ) → List ℕ → List ℕ
@@ -33,7 +32,7 @@ behindFront front written = flatten front ++ written
 -- `front` are packets, and `written` is what the writer wrote: n packets
 pub record EndsWritten (front : List (List ℕ)) (written : List ℕ) (n : ℕ) : Type 0 where
   -- together they are a datagram: the packets in front and the written ones
-  pub held : Holds (behindFront front written) (front ++ packetsIn written)
+  pub held : HoldsPackets (behindFront front written) (front ++ packetsIn written)
   -- its CCFB packets are the written packets in their order
   pub feedback : feedbackIn (front ++ packetsIn written) ≡ packetsIn written
   -- they are as many as the writer answered

@@ -7,14 +7,14 @@ use lib.ListN.{length}
 use Rattle.lists.specs.Kept.{kept}
 use Rattle.lists.proofs.Cases.{never}
 use Rattle.reader.specs.Reading.{Decoded, packet, refused, decodePacket}
-use Rattle.datagram.specs.Walk.{packetAt, packetOctets, Parsed, packets, broken, inFront, behind, onward, walk, packetsOf}
-use Rattle.datagram.specs.Feedback.{isFeedback, feedbackOf}
+use Rattle.datagram.specs.Walk.{packetAt, packetPart, Parsed, packets, broken, inFront, packetEnd, packetsOf}
+use Rattle.datagram.specs.Feedback.{foundIsCcfb, feedbackOf}
 use Rattle.datagram.specs.declared.RtcpPacket.{RtcpPacket}
-use Rattle.datagram.specs.declared.PacketStep.{PacketStep}
 use Rattle.datagram.proofs.Steps.{found-within}
+use Rattle.datagram.proofs.Walks.{walk-ind}
 use Rattle.datagram_reader.specs.declared.FeedbackAnswer.{FeedbackAnswer}
-use Rattle.datagram_reader.specs.Reading.{nth, located, acceptedAs, checked, readFeedback}
-use Rattle.datagram.specs.declared.PacketStep.the-variants.{Packet, End, Broken}
+use Rattle.datagram_reader.specs.Reading.{nth, locatedFeedback, acceptedAs, checked, readFeedback}
+use Rattle.datagram.specs.declared.PacketStep.the-variants.{Packet}
 use Rattle.datagram_reader.specs.declared.FeedbackAnswer.the-variants.{Found, Refused}
 
 -- a packet found in a walk that starts with q is q, or is found behind q
@@ -24,37 +24,33 @@ module _ {P : Type 0} (p q : RtcpPacket) (this : q ≡ p → P) where
   nth-cases true ps (suc k) e later = later k e
   nth-cases false ps k e later = later k e
 
-  located-cases : (w : Parsed) (k : ℕ) → located (inFront q w) k ≡ Found p → ((j : ℕ) → located w j ≡ Found p → P) → P
+  located-cases : (w : Parsed) (k : ℕ) → locatedFeedback (inFront q w) k ≡ Found p → ((j : ℕ) → locatedFeedback w j ≡ Found p → P) → P
   unfolding kept
-  located-cases (packets ps) k e later = nth-cases (isFeedback (q .«packet_type») (q .format)) (feedbackOf ps) k e later
+  located-cases (packets ps) k e later = nth-cases (foundIsCcfb q) (feedbackOf ps) k e later
   located-cases broken k e later = never (cc)
 
 module _ (s : List ℕ) (p : RtcpPacket) where
-  walk-within : (n at k : ℕ) → located (walk n s at) k ≡ Found p → behind p ≤ length s
-  unfolding walk kept
-  walk-within zero at k e = never (cc)
-  walk-within (suc n) at k e = by-step (packetAt s at) refl (λ i j. walk-within n i j) e
-    where
-      by-step : (x : PacketStep) → packetAt s at ≡ x → ((i j : ℕ) → located (walk n s i) j ≡ Found p → behind p ≤ length s)
-          → located (onward x (λ next. walk n s next)) k ≡ Found p
-          → behind p ≤ length s
-      by-step (Packet q) f rest e =
-          located-cases p q (λ z. subst (λ (y : RtcpPacket). behind y ≤ length s) z (found-within s at q f)) (walk n s (behind q)) k e
-          (λ j. rest (behind q) j)
-      by-step End f rest e = never (cc)
-      by-step Broken f rest e = never (cc)
+  -- a packet that is found in a walk ends within the octets
+  Inside : ℕ → Parsed → Type 0
+  Inside at w = (k : ℕ) → locatedFeedback w k ≡ Found p → packetEnd p ≤ length s
 
-  pub located-within : (k : ℕ) → located (packetsOf s) k ≡ Found p → behind p ≤ length s
-  located-within k = walk-within (length s) 0 k
+  inside-more : (at : ℕ) (q : RtcpPacket) (w : Parsed) → packetAt s at ≡ Packet q → Inside (packetEnd q) w → Inside at (inFront q w)
+  unfolding Inside
+  inside-more at q w f rest k e =
+      located-cases p q (λ z. subst (λ (y : RtcpPacket). packetEnd y ≤ length s) z (found-within s at q f)) w k e rest
+
+  pub located-within : (k : ℕ) → locatedFeedback (packetsOf s) k ≡ Found p → packetEnd p ≤ length s
+  unfolding Inside kept
+  located-within = walk-ind s Inside (λ at l k e. never (cc)) (λ at n k e. never (cc)) inside-more 0
 
   -- and so does one that the reader accepts
-  pub feedback-within : (k : ℕ) → readFeedback s k ≡ Found p → behind p ≤ length s
-  feedback-within k e = by-answer (located (packetsOf s) k) refl e
+  pub feedback-within : (k : ℕ) → readFeedback s k ≡ Found p → packetEnd p ≤ length s
+  feedback-within k e = by-answer (locatedFeedback (packetsOf s) k) refl e
     where
       by-reading : (q : RtcpPacket) (d : Decoded) → acceptedAs q d ≡ Found p → q ≡ p
       by-reading q (packet x) e = cc
       by-reading q (refused x) e = never (cc)
 
-      by-answer : (a : FeedbackAnswer) → located (packetsOf s) k ≡ a → checked s a ≡ Found p → behind p ≤ length s
-      by-answer (Found q) f e = located-within k (f ∙ ap Found (by-reading q (decodePacket (packetOctets s q)) e))
+      by-answer : (a : FeedbackAnswer) → locatedFeedback (packetsOf s) k ≡ a → checked s a ≡ Found p → packetEnd p ≤ length s
+      by-answer (Found q) f e = located-within k (f ∙ ap Found (by-reading q (decodePacket (packetPart s q)) e))
       by-answer (Refused x) f e = never (cc)

@@ -4,7 +4,7 @@ use Prim.Native.Nat.{ℕ, zero, suc}
 use mathlib.Core.List.{List, [], _∷_}
 use Rattle.refusal.specs.Numbers.{numberOf}
 use Rattle.reader.specs.Reading.{Decoded, packet, refused, decodePacket}
-use Rattle.datagram.specs.Walk.{Parsed, packets, broken, packetOctets, packetsOf}
+use Rattle.datagram.specs.Walk.{Parsed, packets, broken, packetPart, packetsOf}
 use Rattle.datagram.specs.Feedback.{feedbackOf}
 use Rattle.datagram.specs.declared.RtcpPacket.{RtcpPacket}
 use Rattle.refusal.specs.declared.Refusal.the-variants.{BadDatagram, NoPacket}
@@ -18,9 +18,9 @@ nth [] k = Refused NoPacket
 nth (p ∷ ps) zero = Found p
 nth (p ∷ ps) (suc k) = nth ps k
 
-abbrev pub located : Parsed → ℕ → FeedbackAnswer
-located (packets ps) k = nth (feedbackOf ps) k
-located broken k = Refused BadDatagram
+abbrev pub locatedFeedback : Parsed → ℕ → FeedbackAnswer
+locatedFeedback (packets ps) k = nth (feedbackOf ps) k
+locatedFeedback broken k = Refused BadDatagram
 
 -- ---- checked by the reader
 
@@ -30,18 +30,18 @@ acceptedAs p (packet q) = Found p
 acceptedAs p (refused e) = Refused e
 
 abbrev pub checked : List ℕ → FeedbackAnswer → FeedbackAnswer
-checked s (Found p) = acceptedAs p (decodePacket (packetOctets s p))
+checked s (Found p) = acceptedAs p (decodePacket (packetPart s p))
 checked s (Refused e) = Refused e
 
 -- the answer
 abbrev pub readFeedback : List ℕ → ℕ → FeedbackAnswer
-readFeedback s k = checked s (located (packetsOf s) k)
+readFeedback s k = checked s (locatedFeedback (packetsOf s) k)
 
 -- ---- as a part of the datagram
 
 -- its octets; none where it is refused
 abbrev pub feedbackPart : FeedbackAnswer → List ℕ → List ℕ
-feedbackPart (Found p) s = packetOctets s p
+feedbackPart (Found p) s = packetPart s p
 feedbackPart (Refused e) s = []
 
 -- the number beside them; 0 where it is found

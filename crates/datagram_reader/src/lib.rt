@@ -3,8 +3,8 @@
 ghost use Prim.Native.Nat.{_≤_};
 ghost use mathlib.Core.Path.{_≡_};
 ghost use lib.ListN.{length};
-ghost use Rattle.datagram.specs.Walk.{behind, packetOctets, packetsFrom, packetsOf};
-ghost use Rattle.datagram_reader.specs.Reading.{located, readFeedback, feedbackPart, feedbackRefusal};
+ghost use Rattle.datagram.specs.Walk.{packetEnd, packetPart, packetsFrom, packetsOf};
+ghost use Rattle.datagram_reader.specs.Reading.{locatedFeedback, readFeedback, feedbackPart, feedbackRefusal};
 ghost use Rattle.datagram_reader.specs.Steps.{foundBefore};
 use datagram::PacketStep;
 use datagram::RtcpPacket;
@@ -20,11 +20,11 @@ pub enum FeedbackAnswer {
 
 // A packet that was found, if the rest of the datagram is packets too.
 fn found_in_whole(datagram: &[u8], p: RtcpPacket) -> FeedbackAnswer
-    requires within { ⌜ behind p ≤ length (now datagram) ⌝ }
-    ensures value { λ r. ⌜ r ≡ foundBefore p (packetsFrom (now (datagram .entry)) (behind p)) ⌝ }
+    requires within { ⌜ packetEnd p ≤ length (now datagram) ⌝ }
+    ensures value { λ r. ⌜ r ≡ foundBefore p (packetsFrom (now (datagram .entry)) (packetEnd p)) ⌝ }
 {
-    let behind = p.at + p.size;
-    let rest = datagram_count::count_from(datagram, behind);
+    let end = p.at + p.size;
+    let rest = datagram_count::count_from(datagram, end);
     match rest {
         FeedbackCount::Packets(_) => FeedbackAnswer::Found(p),
         FeedbackCount::Refused(e) => FeedbackAnswer::Refused(e),
@@ -33,7 +33,7 @@ fn found_in_whole(datagram: &[u8], p: RtcpPacket) -> FeedbackAnswer
 
 // CCFB packet k of a datagram, by the headers.
 fn locate(datagram: &[u8], k: usize) -> FeedbackAnswer
-    ensures value { λ r. ⌜ r ≡ located (packetsOf (now (datagram .entry))) k ⌝ }
+    ensures value { λ r. ⌜ r ≡ locatedFeedback (packetsOf (now (datagram .entry))) k ⌝ }
 {
     let mut at = 0;
     let mut left = k;
@@ -41,7 +41,7 @@ fn locate(datagram: &[u8], k: usize) -> FeedbackAnswer
         let here = datagram_walk::next_packet(datagram, at);
         match here {
             PacketStep::Packet(p) => {
-                if datagram_count::is_feedback(p.packet_type, p.format) {
+                if datagram_count::is_ccfb(p.packet_type, p.format) {
                     if left == 0 {
                         return found_in_whole(datagram, p);
                     }
@@ -57,8 +57,8 @@ fn locate(datagram: &[u8], k: usize) -> FeedbackAnswer
 
 // The octets of a packet of a datagram.
 fn part_of<'a>(datagram: &'a [u8], p: RtcpPacket) -> &'a [u8]
-    requires within { ⌜ behind p ≤ length (now datagram) ⌝ }
-    ensures part { λ r. ⌜ now r ≡ packetOctets (now (datagram .entry)) p ⌝ }
+    requires within { ⌜ packetEnd p ≤ length (now datagram) ⌝ }
+    ensures part { λ r. ⌜ now r ≡ packetPart (now (datagram .entry)) p ⌝ }
 {
     let from = p.at;
     let end = from + p.size;

@@ -145,8 +145,7 @@ stays o s e h = rw h
 
 flatten-last : (ps : List (List ℕ)) (s : List ℕ) → flatten (ps ++ s ∷ []) ≡ flatten ps ++ s
 unfolding flatten
-flatten-last [] s = append-nil s
-flatten-last (p ∷ ps) s = ap (λ (t : List ℕ). p ++ t) (flatten-last ps s) ∙ sym (append-assoc p (flatten ps) s)
+flatten-last ps s = flatten-append ps (s ∷ []) ∙ ap (λ (t : List ℕ). flatten ps ++ t) (append-nil s)
 
 -- Where the pieces so far have a fault, what is printed is that of the whole file, whatever the rest of it is.
 pub prints-early : (ps : List (List ℕ)) (rest : List ℕ) (e : Refusal) → Octets (flatten ps ++ rest) → fedPieces ps .intake .phase ≡ Faulty e

@@ -47,7 +47,7 @@ loop-again c =
     let next = matched .before .before .next-packet in
     let loop = matched .before .before .before .loop in
     let found = matched .here .given .1 in
-    let is = told .is-feedback .ensures in
+    let is = told .is-ccfb .ensures in
     let more = found-more _ _ _ (sym (next .ensures) ∙ found) in
     ⊎-elim
     (λ w. (omega arith, count-one _ _ (loop .n) _ (next .ensures) _ found _ is _ (w .0 .taken) (w .1) ∙ loop .inv .1))

@@ -1,5 +1,5 @@
 -- `datagram_reader::feedback_part` meets its contract. Assumes nothing.
-use mathlib.Core.Path.{sym, _∙_}
+use mathlib.Core.Path.{refl, sym, _∙_}
 use Rattle.datagram_reader.proofs.Within.{feedback-within}
 use borrow.Author.Needs.{needs}
 use Rattle.datagram_reader.proofs.feedback_part.Statement.{statement}
@@ -17,14 +17,14 @@ returns c =
     let matched = c .before .before in
     let feedback = matched .before .before .feedback in
     let found = matched .answer .given .1 in
-    (rw (← feedback .ensures, found) (c .part-of .ensures), rw (← feedback .ensures, found))
+    (rw (← feedback .ensures, found) (c .part-of .ensures), rw (← feedback .ensures, found) refl)
 
 returns-2 : tie.Need-returns-2
 returns-2 c =
     let matched = c .before .before .before in
     let feedback = matched .before .before .feedback in
     let refused = matched .answer2 .given .1 in
-    (rw (← feedback .ensures, refused), rw (← feedback .ensures, refused) (c .before .number .ensures))
+    (rw (← feedback .ensures, refused) refl, rw (← feedback .ensures, refused) (c .before .number .ensures))
 
 pub feedback-part-spec : {M : Type 1} → statement M
 feedback-part-spec =

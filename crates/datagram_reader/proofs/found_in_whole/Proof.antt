@@ -1,5 +1,5 @@
 -- `datagram_reader::found_in_whole` meets its contract. Assumes nothing.
-use Rattle.datagram.specs.Walk.{packetsFrom, behind}
+use Rattle.datagram.specs.Walk.{packetsFrom, packetEnd}
 use Rattle.datagram_reader.proofs.Answers.{rest-sound, rest-broken}
 use borrow.Author.Needs.{needs}
 use Rattle.datagram_reader.proofs.found_in_whole.Statement.{statement}
@@ -9,13 +9,13 @@ returns : tie.Need-returns
 returns c =
     let walked = c .before .before in
     let args = walked .before .before .before .args in
-    rest-sound (args .p) _ (packetsFrom (args .datagram .now) (behind (args .p))) _ (walked .count-from .ensures) (c .enum-told .given .1)
+    rest-sound (args .p) _ (packetsFrom (args .datagram .now) (packetEnd (args .p))) _ (walked .count-from .ensures) (c .enum-told .given .1)
 
 returns-2 : tie.Need-returns-2
 returns-2 c =
     let walked = c .before .before .before in
     let args = walked .before .before .before .args in
-    rest-broken (args .p) _ (packetsFrom (args .datagram .now) (behind (args .p))) _ (walked .count-from .ensures) (c .before .rest .given .1)
+    rest-broken (args .p) _ (packetsFrom (args .datagram .now) (packetEnd (args .p))) _ (walked .count-from .ensures) (c .before .rest .given .1)
 
 pub found-in-whole-spec : {M : Type 1} → statement M
 found-in-whole-spec =

@@ -7,14 +7,14 @@ use native.Mathlib.Omega.{arith}
 use lib.ListN.{length}
 use Rattle.datagram.specs.Walk.{packetsFrom, packetsOf}
 use Rattle.datagram.proofs.Steps.{found-more, found-within}
-use Rattle.datagram_reader.specs.Reading.{located}
+use Rattle.datagram_reader.specs.Reading.{locatedFeedback}
 use Rattle.datagram_reader.proofs.Answers.{search-hit, search-one, search-other, search-end, search-broken}
 use borrow.Author.Needs.{needs}
 use Rattle.datagram_reader.proofs.locate.Statement.{statement}
 use Rattle.datagram_reader.proofs.locate.Tie as tie
 
 abbrev Inv-loop : tie.InvT-loop
-Inv-loop datagram k at₀ left₀ at left = located (packetsFrom datagram at) left ≡ located (packetsOf datagram) k
+Inv-loop datagram k at₀ left₀ at left = locatedFeedback (packetsFrom datagram at) left ≡ locatedFeedback (packetsOf datagram) k
 
 abbrev μ-loop : tie.MeasureT-loop
 μ-loop datagram k at₀ left₀ at left = length datagram - at
@@ -33,7 +33,7 @@ returns c =
     let matched = told .before .before in
     let next = matched .before .before .next-packet in
     let loop = matched .before .before .before .loop in
-    let hit = search-hit _ _ (loop .left) _ (next .ensures) _ (matched .here .given .1) _ (told .is-feedback .ensures) in
+    let hit = search-hit _ _ (loop .left) _ (next .ensures) _ (matched .here .given .1) _ (told .is-ccfb .ensures) in
     c .found-in-whole .ensures ∙ hit (c .before .before .if1 .taken) (c .before .if2 .taken) ∙ loop .inv
 
 add-at : tie.Need-add-at Inv-loop μ-loop
@@ -54,7 +54,7 @@ loop-again c =
     let next = matched .before .before .next-packet in
     let loop = matched .before .before .before .loop in
     let found = matched .here .given .1 in
-    let is = told .is-feedback .ensures in
+    let is = told .is-ccfb .ensures in
     ⊎-elim
     (λ w. search-one _ _ (loop .left) _ (next .ensures) _ found _ is _ (w .0 .taken) (w .1 .left) (w .2) ∙ loop .inv)
     (λ w. search-other _ _ (loop .left) _ (next .ensures) _ found _ is _ (w .0 .left) (w .1) ∙ loop .inv)

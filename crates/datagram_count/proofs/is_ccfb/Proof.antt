@@ -1,12 +1,12 @@
--- `datagram_count::is_feedback` meets its contract. Assumes nothing.
+-- `datagram_count::is_ccfb` meets its contract. Assumes nothing.
 use mathlib.Core.Bool.{true, false}
 use mathlib.Core.Path.{_≡_, refl}
 use native.Mathlib.Omega.{arith}
 use lib.Dec.{eqb}
 use borrow.Author.Tests.{eq-eqb, ne-eqb}
 use Rattle.packet.specs.Packet.{packetType}
-use Rattle.datagram_count.proofs.is_feedback.Statement.{statement}
-use Rattle.datagram_count.proofs.is_feedback.Tie as tie
+use Rattle.datagram_count.proofs.is_ccfb.Statement.{statement}
+use Rattle.datagram_count.proofs.is_ccfb.Tie as tie
 
 returns : tie.Need-returns
 returns c =
@@ -20,5 +20,5 @@ returns-2 c =
     let type : eqb (c .before .args .packet-type) packetType ≡ true = eq-eqb _ _ same in
     simp type refl
 
-pub is-feedback-spec : {M : Type 1} → statement M
-is-feedback-spec = tie.close (tie.spec returns returns-2)
+pub is-ccfb-spec : {M : Type 1} → statement M
+is-ccfb-spec = tie.close (tie.spec returns returns-2)
