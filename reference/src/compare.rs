@@ -62,15 +62,25 @@ impl Tally {
         if ours == reference {
             return Ok(());
         }
+        Err(self.mismatch(input, &ours, &reference))
+    }
+
+    /// Takes an answer that must not be a refusal.
+    pub fn accepted<T>(&mut self, input: &dyn Debug, ours: Result<T, u8>) -> Result<T, Mismatch> {
+        self.comparisons += 1;
+        ours.map_err(|refusal| self.mismatch(input, &refusal, &"no refusal"))
+    }
+
+    fn mismatch(&self, input: &dyn Debug, ours: &dyn Debug, reference: &dyn Debug) -> Mismatch {
         let shown = |value: &dyn Debug| {
             let text = format!("{value:?}");
             text.get(..MOST_SHOWN).map_or(text.clone(), |start| format!("{start}..."))
         };
-        let (input, ours, reference) = (shown(input), shown(&ours), shown(&reference));
+        let (input, ours, reference) = (shown(input), shown(ours), shown(reference));
         let Tally { name, seed, case, .. } = self;
-        Err(format!(
+        format!(
             "MISMATCH {name} seed {seed} case {case}: input {input} ours {ours} reference {reference}"
-        ))
+        )
     }
 }
 

@@ -1,7 +1,7 @@
 //! A datagram: RTCP packets back to back (RFC 3550, section 6.1 and appendix A.2), of any type and
 //! in any order (RFC 5506). It is cut into a list of packets; the other rules are about the list.
 
-use crate::packet;
+use crate::packet::{self, Packet};
 use crate::refusal::Refusal;
 
 /// An RTCP packet of any type, and the octet of its datagram where it starts.
@@ -37,7 +37,7 @@ impl RtcpPacket<'_> {
     }
 
     /// Whether its header is that of a CCFB packet.
-    pub fn is_feedback(&self) -> bool {
+    pub fn is_ccfb(&self) -> bool {
         self.packet_type() == packet::TYPE && self.first_bits()[3..8] == *packet::FMT
     }
 }
@@ -70,16 +70,20 @@ pub fn packets(datagram: &[u8]) -> Result<Vec<RtcpPacket<'_>>, Refusal> {
 
 /// The CCFB packets of a datagram, also those that the reader refuses.
 pub fn feedback(datagram: &[u8]) -> Result<Vec<RtcpPacket<'_>>, Refusal> {
-    Ok(packets(datagram)?.into_iter().filter(RtcpPacket::is_feedback).collect())
+    Ok(packets(datagram)?.into_iter().filter(RtcpPacket::is_ccfb).collect())
 }
 
-/// CCFB packet `k` of those of a datagram, if the reader reads it.
-pub fn readable<'a>(feedback: &[RtcpPacket<'a>], k: usize) -> Result<RtcpPacket<'a>, Refusal> {
+/// CCFB packet `k` of those of a datagram, and what the reader reads in it.
+pub fn readable<'a>(
+    feedback: &[RtcpPacket<'a>],
+    k: usize,
+) -> Result<(RtcpPacket<'a>, Packet), Refusal> {
     let packet = feedback.get(k).ok_or(Refusal::NoPacket)?;
-    packet::parse(packet.octets).map(|_| *packet)
+    Ok((*packet, packet::parse(packet.octets)?))
 }
 
-/// The packet that starts at `at`; nothing is asked of the octets before and behind it.
+/// The packet that starts at `at`. A padded packet that does not end the datagram is refused; the
+/// values of the octets before and behind the packet do not matter.
 pub fn next_packet(datagram: &[u8], at: usize) -> Result<RtcpPacket<'_>, Refusal> {
     if at >= datagram.len() {
         return Err(Refusal::NoPacket);
@@ -120,7 +124,7 @@ mod tests {
 
     /// Where CCFB packet `k` starts, and how long it is.
     fn part(datagram: &[u8], k: usize) -> Result<(usize, usize), Refusal> {
-        readable(&feedback(datagram)?, k).map(|packet| (packet.at, packet.octets.len()))
+        readable(&feedback(datagram)?, k).map(|(packet, _)| (packet.at, packet.octets.len()))
     }
 
     #[test]

@@ -105,9 +105,12 @@ fn parts(
     // A question walks the whole datagram, so only some packets of a long one are asked for.
     let one_in = 1 + feedback.len() as u64 / 200;
     for (k, packet) in feedback.iter().enumerate() {
-        if rng.one_in(one_in) {
-            part(calls, tally, datagram, k, feedback)?;
-            read_part(calls, tally, rng, datagram, packet)?;
+        if !rng.one_in(one_in) {
+            continue;
+        }
+        part(calls, tally, datagram, k, feedback)?;
+        if rng.one_in(32) {
+            packet::compare(&calls.packet, tally, rng, packet.octets)?;
         }
     }
     let count = feedback.len();
@@ -117,6 +120,7 @@ fn parts(
     Ok(())
 }
 
+/// Where CCFB packet `k` is, and what the reader answers of the octets there.
 fn part(
     calls: &Calls,
     tally: &mut Tally,
@@ -124,28 +128,17 @@ fn part(
     k: usize,
     feedback: &[RtcpPacket],
 ) -> Result<(), Mismatch> {
-    let part = readable(feedback, k).map(|packet| (packet.at, packet.octets.len()));
+    let reference = numbered(readable(feedback, k));
     let ours = calls.datagram.feedback(datagram, k);
-    tally.same(&("feedback", k, Hex(datagram)), ours, numbered(part))
-}
-
-/// The reader answers the same of the part as of a copy of its octets; now and then it is asked
-/// everything about the part.
-fn read_part(
-    calls: &Calls,
-    tally: &mut Tally,
-    rng: &mut Rng,
-    datagram: &[u8],
-    packet: &RtcpPacket,
-) -> Result<(), Mismatch> {
-    let copy = packet.octets.to_vec();
-    let part = &datagram[packet.at..packet.at + copy.len()];
-    let input = ("read", packet.at, Hex(datagram));
-    tally.same(&input, calls.packet.read(part), calls.packet.read(&copy))?;
-    if rng.one_in(32) {
-        packet::compare(&calls.packet, tally, rng, part)?;
-    }
-    Ok(())
+    let read = ours.and_then(|(at, length)| {
+        // Octets that are not there are read as none.
+        let part = datagram.get(at..at.saturating_add(length)).unwrap_or_default();
+        calls.packet.read(part)
+    });
+    let fields = reference.as_ref().map(|(_, content)| packet::fields(content)).map_err(|r| *r);
+    tally.same(&("read", k, Hex(datagram)), read, fields)?;
+    let place = reference.map(|(packet, _)| (packet.at, packet.octets.len()));
+    tally.same(&("feedback", k, Hex(datagram)), ours, place)
 }
 
 /// A datagram that is refused has no parts.
@@ -287,16 +280,16 @@ fn behind_others(
     let numbers: usize = requests.iter().map(|request| usize::from(request.count)).sum();
     let mut out = vec![0; LEAST_LIMIT * (numbers + requests.len())];
     let answer = calls.writer.write(lent, report, requests, &mut out);
-    tally.same(&("write", report, requests), answer.map(|_| ()), Ok(()))?;
-    let (packets, octets) = answer.unwrap_or((0, 0));
+    let (packets, octets) = tally.accepted(&("write", report, requests), answer)?;
     let mut at = others.len();
     let datagram = [others, &out[..octets]].concat();
     let input = ("written", report, requests, Hex(&datagram));
     tally.same(&input, calls.datagram.feedback_count(&datagram), Ok(packets))?;
     for k in 0..packets {
-        let ours = calls.datagram.feedback(&datagram, k);
-        tally.same(&(input, k), ours.map(|(start, _)| start), Ok(at))?;
-        at += ours.map_or(0, |(_, length)| length);
+        let part = calls.datagram.feedback(&datagram, k);
+        let (start, length) = tally.accepted(&(input, k), part)?;
+        tally.same(&(input, k), start, at)?;
+        at += length;
     }
     tally.same(&input, at, datagram.len())?;
     walk(calls, tally, &datagram, 0)

@@ -66,7 +66,7 @@ fn random_packet(rng: &mut Rng) -> Vec<u8> {
 
 /// A packet that is not a CCFB packet, without padding.
 pub fn other_packet(rng: &mut Rng) -> Vec<u8> {
-    let any = rng.below(u64::from(TRANSPORT_FEEDBACK)) as u8;
+    let any = rng.below(256) as u8;
     let packet_type = match rng.below(9) {
         0 => SENDER_REPORT,
         1 => RECEIVER_REPORT,

@@ -50,6 +50,11 @@ pub fn run(calls: &PacketCalls, tally: &mut Tally) -> Result<(), Mismatch> {
     Ok(())
 }
 
+/// What `read` answers of a packet: sender, RTS and number of blocks.
+pub(super) fn fields(packet: &Packet) -> (u32, u32, usize) {
+    (packet.sender, packet.rts, packet.blocks.len())
+}
+
 /// Asks everything about some octets, and rewrites them.
 pub(super) fn compare(
     calls: &PacketCalls,
@@ -58,8 +63,8 @@ pub(super) fn compare(
     octets: &[u8],
 ) -> Result<(), Mismatch> {
     let reference = parse(octets);
-    let answer = reference.as_ref().map(|packet| (packet.sender, packet.rts, packet.blocks.len()));
-    tally.same(&("read", Hex(octets)), calls.read(octets), numbered(answer.map_err(|r| *r)))?;
+    let answer = reference.as_ref().map(fields).map_err(|refusal| *refusal);
+    tally.same(&("read", Hex(octets)), calls.read(octets), numbered(answer))?;
     match &reference {
         Ok(packet) => questions(calls, tally, rng, octets, packet)?,
         Err(refusal) => refused_questions(calls, tally, rng, octets, *refusal)?,
@@ -127,8 +132,7 @@ fn one_pass(calls: &PacketCalls, tally: &mut Tally, octets: &[u8]) -> Result<(),
             return tally.same(&("first block", Hex(octets)), first, Err(refusal.number()));
         }
     };
-    tally.same(&("first block", Hex(octets)), first.map(|_| ()), Ok(()))?;
-    let mut at = first.unwrap_or(0);
+    let mut at = tally.accepted(&("first block", Hex(octets)), first)?;
     let mut metrics_at = HEADER_OCTETS + BLOCK_HEADER_OCTETS;
     for (k, block) in packet.blocks.iter().enumerate() {
         let reference = (block.ssrc, block.begin, block.metrics.len() as u16, metrics_at);
