@@ -7,6 +7,7 @@ use mathlib.Core.List.{List, [], _∷_, _++_, append-nil, append-assoc, map, fol
 use native.Mathlib.Omega.{arith}
 use lib.ListN.{length, length-replicate}
 use Rattle.lists.specs.All.{All}
+use Rattle.lists.proofs.Flatten.{flatten-append}
 use Rattle.lists.proofs.All.{all-left}
 use Rattle.refusal.specs.declared.Refusal.{Refusal}
 use Rattle.octets.specs.Output.{outputAfter}
