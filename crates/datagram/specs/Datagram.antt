@@ -1,6 +1,6 @@
 -- Rules: "Datagram", rules "Packets of a datagram" and "No datagram". What a datagram is, without
 -- the walk that finds its packets: they are back to back, each is as long as its header says, and
--- the padding flag is on the last alone.
+-- only the last may have the padding flag.
 use Prim.Native.Nat.{ℕ, _+_, _≤_, _<_}
 use mathlib.Core.Path.{_≡_}
 use mathlib.Core.List.{List, [], _∷_, _++_, flatten, dropLast}

@@ -4,7 +4,7 @@ use Prim.Native.Nat.{ℕ, _+_}
 use mathlib.Core.Bool.{true}
 use mathlib.Core.Logic.{inl, inr}
 use mathlib.Core.Path.{_≡_, refl, sym, ap, subst, _∙_}
-use mathlib.Core.List.{List, [], _∷_, _++_, map}
+use mathlib.Core.List.{List, [], _∷_, _++_}
 use lib.ListN.{length, drop}
 use borrow.Author.Tests.{eq-eqb, ne-eqb}
 use Rattle.lists.specs.Kept.{kept}
@@ -18,7 +18,7 @@ use Rattle.packet_laws.specs.Refused.{Long, Typed, Fault, ReadingGiven}
 use Rattle.packet_laws.proofs.Refusals.{refused-given, given-refused}
 use Rattle.ccfb_calls.specs.Called.{refusedWith}
 use Rattle.call_laws.proofs.Numbers.{own-number, not-zero}
-use Rattle.datagram.specs.Walk.{packetAt, packetPart, Parsed, packets, broken, packetsOf}
+use Rattle.datagram.specs.Walk.{packetAt, packetsOf}
 use Rattle.datagram.specs.Datagram.{IsPacket, NoPadding, HoldsPackets, NoDatagram, DatagramFault}
 use Rattle.datagram.specs.Feedback.{isCcfb, octetsAreCcfb, feedbackIn, KthFeedback}
 use Rattle.datagram.specs.declared.RtcpPacket.{RtcpPacket}
