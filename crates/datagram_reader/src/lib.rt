@@ -1,5 +1,5 @@
 // CCFB packet k of a datagram, checked as the reader checks a packet. It accepts any octets, and answers or gives the
-// first refusal. The whole datagram is walked before any answer.
+// first refusal. All headers are checked first, those after packet k too.
 ghost use Prim.Native.Nat.{_≤_};
 ghost use mathlib.Core.Path.{_≡_};
 ghost use lib.ListN.{length};
@@ -86,8 +86,8 @@ pub fn feedback(datagram: &[u8], k: usize) -> FeedbackAnswer
     }
 }
 
-// CCFB packet k, from 0, as a part of the datagram, and 0 in `refused`. Where it is refused: an empty part, and the number
-// of the refusal.
+// The part of the datagram that is CCFB packet k, from 0, and 0 in `refused`. Where the packet is refused: an empty part,
+// and the number of the refusal.
 pub fn feedback_part<'a>(datagram: &'a [u8], k: usize, refused: &mut u8) -> &'a [u8]
     ensures part { λ r. ⌜ now r ≡ feedbackPart (readFeedback (now (datagram .entry)) k) (now (datagram .entry)) ⌝ }
     ensures number { λ r. ⌜ now (refused .exit) ≡ feedbackRefusal (readFeedback (now (datagram .entry)) k) ⌝ }
