@@ -11,7 +11,7 @@ use Rattle.refusal.specs.declared.Refusal.the-variants.{BadMark, NoFreePlace, T
 use Rattle.refusal.specs.declared.Refusal.the-variants.{BadLimit, TooManyRequests, StreamRepeated, BadRange, OutputTooShort}
 use Rattle.refusal.specs.declared.Refusal.the-variants.{BadFileMark, BadFileVersion, RecordCutShort, BadRecord}
 use Rattle.refusal.specs.declared.Refusal.the-variants.{PacketTooShort, BadVersion, BadType, BadLength, Padded, RunsIntoRts, TooManyReports, FillerNotZero, NoBlock, NoNumber}
-use Rattle.refusal.specs.declared.Refusal.the-variants.{BadDatagram, NoPacket}
+use Rattle.refusal.specs.declared.Refusal.the-variants.{BadDatagram, NoPacket, NotRegistered}
 
 -- the refusal of a number, where there is one
 table : List (Option Refusal)
@@ -22,7 +22,7 @@ table =
     ∷ none ∷ none ∷ none ∷ none ∷ none ∷ none
     ∷ some PacketTooShort ∷ some BadVersion ∷ some BadType ∷ some BadLength ∷ some Padded
     ∷ some RunsIntoRts ∷ some TooManyReports ∷ some FillerNotZero ∷ some NoBlock ∷ some NoNumber
-    ∷ some BadDatagram ∷ some NoPacket ∷ []
+    ∷ some BadDatagram ∷ some NoPacket ∷ none ∷ none ∷ none ∷ none ∷ some NotRegistered ∷ []
 
 refusalOf : ℕ → Option Refusal
 unfolding table
@@ -56,6 +56,7 @@ own NoBlock = refl
 own NoNumber = refl
 own BadDatagram = refl
 own NoPacket = refl
+own NotRegistered = refl
 
 pub own-number : (d e : Refusal) → numberOf d ≡ numberOf e → d ≡ e
 own-number d e h = let z : some d ≡ some e = sym (own d) ∙ ap refusalOf h ∙ own e in cc

@@ -1,12 +1,12 @@
 -- Rules: "Refusals". The number of each refusal, as a caller is given it. 0 is no refusal; 15 to 20
--- are not used.
+-- and 33 to 36 are not used.
 use Prim.Native.Nat.{ℕ}
 use Rattle.refusal.specs.declared.Refusal.{Refusal}
 use Rattle.refusal.specs.declared.Refusal.the-variants.{BadMark, NoFreePlace, TooOld, BadStore, NotHeld}
 use Rattle.refusal.specs.declared.Refusal.the-variants.{BadLimit, TooManyRequests, StreamRepeated, BadRange, OutputTooShort}
 use Rattle.refusal.specs.declared.Refusal.the-variants.{BadFileMark, BadFileVersion, RecordCutShort, BadRecord}
 use Rattle.refusal.specs.declared.Refusal.the-variants.{PacketTooShort, BadVersion, BadType, BadLength, Padded, RunsIntoRts, TooManyReports, FillerNotZero, NoBlock, NoNumber}
-use Rattle.refusal.specs.declared.Refusal.the-variants.{BadDatagram, NoPacket}
+use Rattle.refusal.specs.declared.Refusal.the-variants.{BadDatagram, NoPacket, NotRegistered}
 
 abbrev pub numberOf : Refusal → ℕ
 -- arrivals and the store
@@ -40,3 +40,5 @@ numberOf NoNumber = 30
 -- datagrams
 numberOf BadDatagram = 31
 numberOf NoPacket = 32
+-- sent packets
+numberOf NotRegistered = 37

@@ -2,7 +2,8 @@
 ghost use mathlib.Core.Path.{_≡_};
 ghost use Rattle.refusal.specs.Numbers.{numberOf};
 
-// Why a call refuses: first arrivals and the store, then the writer, the arrival file, the reader, and datagrams.
+// Why a call refuses: first arrivals and the store, then the writer, the arrival file, the reader, datagrams,
+// and sent packets.
 pub enum Refusal {
     BadMark,
     NoFreePlace,
@@ -30,6 +31,7 @@ pub enum Refusal {
     NoNumber,
     BadDatagram,
     NoPacket,
+    NotRegistered,
 }
 
 // The number that a caller is given for a refusal.
@@ -63,5 +65,6 @@ pub fn number(e: Refusal) -> u8
         Refusal::NoNumber => 30,
         Refusal::BadDatagram => 31,
         Refusal::NoPacket => 32,
+        Refusal::NotRegistered => 37,
     }
 }

@@ -1,0 +1,25 @@
+-- The steps of the code: a block whose place is found once. No statement for a caller needs these.
+use Prim.Native.Nat.{ℕ, _+_, _%_}
+use mathlib.Core.List.{List, [], _∷_}
+use Rattle.lists.specs.declared.Found.{Found}
+use Rattle.window.specs.Number.{sequenceNumbers}
+use Rattle.places.specs.Place.{highestAt, findOf}
+use Rattle.packet.specs.Packet.{Block}
+use Rattle.sent_block.specs.Reports.{reportedAt}
+use Rattle.lists.specs.declared.Found.the-variants.{At, Nothing}
+
+-- metrics of a block, starting with metric j
+unfoldable pub enteredFrom : ℕ → ℕ → ℕ → List ℕ → ℕ → ℕ → List ℕ → List ℕ
+enteredFrom p highest rts cells begin j [] = cells
+enteredFrom p highest rts cells begin j (m ∷ ms) =
+    enteredFrom p highest rts (reportedAt p highest rts cells ((begin + j) % sequenceNumbers) m) begin (j + 1) ms
+
+abbrev pub blockEntered : ℕ → ℕ → ℕ → List ℕ → Block → List ℕ
+blockEntered p highest rts cells b = enteredFrom p highest rts cells (b .begin) 0 (b .metrics)
+
+abbrev pub blockTakenAt : Found → List ℕ → ℕ → List ℕ → Block → List ℕ
+blockTakenAt (At p) places rts cells b = blockEntered p (highestAt places p) rts cells b
+blockTakenAt Nothing places rts cells b = cells
+
+unfoldable pub blockTaken : List ℕ → ℕ → List ℕ → Block → List ℕ
+blockTaken places rts cells b = blockTakenAt (findOf places (b .ssrc)) places rts cells b

@@ -1,0 +1,2 @@
+pub mod TakeIn
+pub mod Steps

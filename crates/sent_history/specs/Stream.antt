@@ -1,0 +1,71 @@
+-- Rules: "What a sender's store means", rule "History of a sent stream". A stream by itself: what
+-- its own accepted registrations and the reports on it make of it, whatever comes for others.
+use Prim.Native.Nat.{ℕ, max}
+use mathlib.Core.Bool.{Bool, true, false, cond, _&&_}
+use mathlib.Core.List.{List, [], _∷_, _++_}
+use lib.Dec.{eqb, leb}
+use Rattle.metric.specs.Metric.{decodeOf}
+use Rattle.metric.specs.declared.Metric.{Metric}
+use Rattle.reader.specs.Reading.{Decoded, packet, refused, decodePacket}
+use Rattle.streams.specs.Full.{fullOf, firstFull, isTooOld}
+use Rattle.streams.specs.Model.{Place, free, stream}
+use Rattle.sent_register.specs.declared.Registration.{Registration}
+use Rattle.sent_block.specs.Reports.{Report, reportsOf}
+use Rattle.sent_history.specs.Calls.{Call, register, takeIn, CallAnswer, toRegistration, toTakingIn}
+use Rattle.sent_history.specs.Meaning.{Event, Entry, entryOf, registered, reported}
+use Rattle.sent_register.specs.declared.Registration.the-variants as registration
+
+-- what happened to a stream: a sequence number was registered; a packet reported one
+pub data Happened : Type 0 where
+  sent : ℕ → Happened
+  heard : ℕ → Metric → ℕ → Happened
+
+-- the reports of a packet that name the stream
+unfoldable pub heardIn : ℕ → ℕ → List Report → List Happened
+heardIn ssrc rts [] = []
+heardIn ssrc rts (r ∷ rs) =
+    let rest = heardIn ssrc rts rs in
+    cond (eqb (r .ssrc) ssrc) (heard (r .number) (decodeOf (r .metric)) rts ∷ rest) rest
+
+abbrev pub heardAs : ℕ → Decoded → List Happened
+heardAs ssrc (packet p) = heardIn ssrc (p .rts) (reportsOf (p .blocks))
+heardAs ssrc (refused e) = []
+
+abbrev pub isAccepted : CallAnswer → Bool
+isAccepted (toRegistration registration.Accepted) = true
+isAccepted (toRegistration (registration.Refused e)) = false
+isAccepted (toTakingIn t) = false
+
+-- what one call with its answer adds
+abbrev pub happenedBy : ℕ → Call → CallAnswer → List Happened
+happenedBy ssrc (register x number) a = cond (eqb x ssrc && isAccepted a) (sent number ∷ []) []
+happenedBy ssrc (takeIn s) a = heardAs ssrc (decodePacket s)
+
+-- rule "History of a sent stream", from all calls to a fresh store, and the answers to them
+abbrev pub historyOf : ℕ → List Call → List CallAnswer → List Happened
+historyOf ssrc [] xs = []
+historyOf ssrc (c ∷ cs) [] = []
+historyOf ssrc (c ∷ cs) (x ∷ xs) = happenedBy ssrc c x ++ historyOf ssrc cs xs
+
+-- the stream with one more entry
+abbrev pub withEntry : ℕ → ℕ → List Entry → Event → ℕ → Place Entry
+withEntry ssrc top es event full = stream ssrc (max top full) (es ++ (entryOf event full ∷ []))
+
+-- an accepted registration counts on, and takes a place for a new stream; a report is entered where its number is in
+-- the window
+abbrev pub streamAfter : ℕ → Place Entry → Happened → Place Entry
+streamAfter ssrc free (sent number) = withEntry ssrc 0 [] registered (firstFull number)
+streamAfter ssrc free (heard number m rts) = free
+streamAfter ssrc (stream x top es) (sent number) = withEntry ssrc top es registered (fullOf top number)
+streamAfter ssrc (stream x top es) (heard number m rts) =
+    cond (leb (fullOf top number) top)
+    (cond (isTooOld top (fullOf top number)) (stream x top es) (withEntry ssrc top es (reported m rts) (fullOf top number)))
+    (stream x top es)
+
+unfoldable pub streamFrom : ℕ → Place Entry → List Happened → Place Entry
+streamFrom ssrc P [] = P
+streamFrom ssrc P (h ∷ hs) = streamFrom ssrc (streamAfter ssrc P h) hs
+
+-- what the stream is after its history
+abbrev pub streamBy : ℕ → List Happened → Place Entry
+streamBy ssrc hs = streamFrom ssrc free hs

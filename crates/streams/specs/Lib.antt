@@ -1,0 +1,4 @@
+pub mod Full
+pub mod Model
+pub mod Reading
+pub mod Runs
