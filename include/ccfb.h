@@ -2,9 +2,10 @@
  * Nadrwythol: RTCP Congestion Control Feedback (CCFB, RFC 8888).
  *
  * A receiver records RTP arrivals in a store (ccfb_arrive) and writes feedback from it
- * (ccfb_write); a sender finds the feedback in a datagram (ccfb_feedback) and reads it (ccfb_read
- * and what follows). docs/MANUAL.md explains each call with an example, docs/RULES.md has the
- * exact rules.
+ * (ccfb_write). A sender registers what it sends (ccfb_register), finds the feedback in a datagram
+ * (ccfb_feedback), takes it in (ccfb_take_in) and asks what became of each packet (ccfb_status);
+ * or it reads the feedback itself (ccfb_read and what follows). docs/MANUAL.md explains each call
+ * with an example, docs/RULES.md has the exact rules.
  *
  * Answers. A call that can be refused returns 0, or the number of its refusal: the first one that
  * applies, in the order that stands at the call. ccfb_refusal_text puts a number into words. A
@@ -41,8 +42,8 @@ extern "C" {
 
 #define CCFB_VERSION_MAJOR 0
 #define CCFB_VERSION_MINOR 2
-#define CCFB_VERSION_PATCH 1
-#define CCFB_VERSION "0.2.1"
+#define CCFB_VERSION_PATCH 2
+#define CCFB_VERSION "0.2.2"
 
 /* Refusals. */
 #define CCFB_BAD_MARK 1          /* ECN mark above 3 */
@@ -67,6 +68,7 @@ extern "C" {
 #define CCFB_NO_NUMBER 30        /* no such sequence number in the block */
 #define CCFB_BAD_DATAGRAM 31     /* not a valid RTCP datagram */
 #define CCFB_NO_PACKET 32        /* no such packet in the datagram */
+#define CCFB_NOT_REGISTERED 37   /* number not registered as sent, or not in the window */
 
 /* ---- Metrics: what feedback says of one sequence number */
 
@@ -372,6 +374,69 @@ uint8_t ccfb_feedback(const uint8_t *datagram, size_t len, size_t k, size_t *pac
 uint8_t ccfb_next_packet(const uint8_t *datagram, size_t len, size_t *at, uint8_t *packet_type,
                          uint8_t *format, size_t *packet_at, size_t *packet_length);
 
+/* ---- What became of sent packets: two arrays that the sender owns, zeroed at the start
+ *
+ * places and cells have the shape of a store of arrivals, but other words in the cells: keep the
+ * two apart. Of each stream the 2,048 numbers up to the highest registered one are known. */
+
+/* The kinds of status: those of a metric, CCFB_NOT_RECEIVED to CCFB_NO_TIME, and this one. */
+#define CCFB_NOT_REPORTED 4 /* no feedback on it yet; neither a mark nor a time */
+
+/*
+ * Registers a sequence number that was sent. Call it before the packet can be reported on: a
+ * report on a number that is not registered is passed over.
+ *
+ * The window moves as with ccfb_arrive: a higher number moves it on, and a new stream takes the
+ * free place with the lowest index. Registering a number again changes nothing while it is among
+ * the 2,048 of the window.
+ *
+ *   places, cells   n places and CCFB_CELLS(n) cells, n from 1 to 16
+ *
+ * Returns 0, or the first of these that applies; nothing is changed then:
+ *   CCFB_BAD_STORE       the lengths are not as above
+ *   CCFB_TOO_OLD         the stream is held, and the number is 2,048 or more behind its highest
+ *   CCFB_NO_FREE_PLACE   a new stream, and no place is free
+ */
+uint8_t ccfb_register(uint64_t *places, size_t places_len, uint64_t *cells, size_t cells_len,
+                      uint32_t ssrc, uint16_t number);
+
+/*
+ * Takes in a CCFB packet: block by block, number by number, what it says of each number that is
+ * registered and in the window of its stream. Other numbers, and streams that were never
+ * registered, are passed over.
+ *
+ * "Received" stays: "not received" never replaces it, and a later "received" does. So a packet may
+ * come twice, and feedback may be lost.
+ *
+ *   packet, len   any octets; the packet is checked to its end before anything is changed
+ *
+ * Returns 0, or the first of these that applies; nothing is changed then:
+ *   CCFB_BAD_STORE   the lengths are not those of a store
+ *   a refusal as ccfb_read gives it
+ */
+uint8_t ccfb_take_in(const uint64_t *places, size_t places_len, uint64_t *cells, size_t cells_len,
+                     const uint8_t *packet, size_t len);
+
+/*
+ * What is known of a sequence number that was sent.
+ *
+ *   kind   CCFB_NOT_REPORTED    no feedback on it came yet
+ *          CCFB_NOT_RECEIVED    it was reported as not received, and never as received
+ *          CCFB_RECEIVED, CCFB_OVER_RANGE, CCFB_NO_TIME: as the last feedback that had it
+ *          received says
+ *   mark   the ECN mark; written if it was received: CCFB_RECEIVED, CCFB_OVER_RANGE, CCFB_NO_TIME
+ *   time   when it arrived, by the receiver's clock, in 1/65536 s modulo 2^32: RTS of that
+ *          feedback less the arrival time offset; written if the kind is CCFB_RECEIVED
+ *
+ * Returns 0, or the first of these that applies; nothing is written then:
+ *   CCFB_BAD_STORE        the lengths are not those of a store
+ *   CCFB_NOT_HELD         no number of the stream was registered
+ *   CCFB_NOT_REGISTERED   this one was not, or it is not among the 2,048 up to the highest
+ */
+uint8_t ccfb_status(const uint64_t *places, size_t places_len, const uint64_t *cells,
+                    size_t cells_len, uint32_t ssrc, uint16_t number, uint8_t *kind, uint8_t *mark,
+                    uint32_t *time);
+
 /* ---- Refusals in words */
 
 /*
@@ -408,6 +473,7 @@ static inline const char *ccfb_refusal_text(uint8_t refused)
     case CCFB_NO_NUMBER: return "no such sequence number in the block";
     case CCFB_BAD_DATAGRAM: return "not a valid RTCP datagram";
     case CCFB_NO_PACKET: return "no such packet in the datagram";
+    case CCFB_NOT_REGISTERED: return "number not registered as sent, or not in the window";
     default: return "unknown refusal";
     }
 }

@@ -46,7 +46,8 @@ abbrev pub anyReceived : List Status → Bool
 anyReceived [] = false
 anyReceived (s ∷ ss) = isReceived s || anyReceived ss
 
--- rule "Status": the last "received", else missing if anything was reported, else not reported yet
+-- rule "Status by history": the last "received", else missing if anything was reported, else not
+-- reported yet
 abbrev pub lastOf : List Status → Status
 lastOf [] = NotReported
 lastOf (s ∷ ss) = cond (anyReceived ss) (lastOf ss) s

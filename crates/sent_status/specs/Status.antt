@@ -22,7 +22,7 @@ abbrev pub answerOf : Sent → StatusAnswer
 answerOf sent.NotRegistered = Refused NotRegistered
 answerOf (sent.Registered s) = Known s
 
--- rule "Status": of the number that is b behind the highest one; 37 also where it is not in the window
+-- rule "Asking": of the number that is b behind the highest one; 37 also where it is not in the window
 unfoldable pub statusAt : List ℕ → ℕ → ℕ → ℕ → StatusAnswer
 statusAt cells p number b = cond (leb cellsOfAPlace b) (Refused NotRegistered) (answerOf (readWord (cellAt cells p number)))
 
