@@ -5,3 +5,4 @@ pub mod Admission
 pub mod Fresh
 pub mod Runs
 pub mod Once
+pub mod Alone
