@@ -76,14 +76,15 @@ module _ {E : Type 0} where
     pub found-stream : (f : Found) → findIn ps x ≡ f → streamIn ps x ≡ foundIn f ps
     found-stream f e = ap (λ (g : Found). foundIn g ps) e
 
+  -- the full number of a number that moves the window of the stream, which was P
+  abbrev pub nextFull : Place E → ℕ → ℕ
+  nextFull free number = firstFull number
+  nextFull (stream x top es) number = fullOf top number
+
   module _ (entry : ℕ → E) where
-    -- the stream x, which was P, with one more entry; and the full number of the next number that moves its window
+    -- the stream x, which was P, with one more entry
     abbrev pub withOne : ℕ → Place E → ℕ → Place E
     withOne x P full = stream x (max (highestIn P) full) (entriesIn P ++ (entry full ∷ []))
-
-    abbrev pub nextFull : Place E → ℕ → ℕ
-    nextFull free number = firstFull number
-    nextFull (stream x top es) number = fullOf top number
 
     -- what is noted of a number
     abbrev pub notedBy : ℕ → Place E → ℕ → Place E

@@ -7,7 +7,7 @@ use Rattle.ring.specs.Ring.{cellsOfAPlace}
 use Rattle.places.specs.Place.{readPlace}
 use Rattle.places.specs.Shape.{mostPlaces}
 use Rattle.places.proofs.Places.{read-zero}
-use Rattle.streams.specs.Model.{Place, free, at, vacant}
+use Rattle.streams.specs.Model.{free, at, vacant}
 use Rattle.streams.specs.Reading.{Store, Fresh, Meaning, Reads}
 
 replicate-at : {A : Type 0} (a : A) (n k : ℕ) → getD (replicate n a) k a ≡ a
