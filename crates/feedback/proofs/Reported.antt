@@ -7,9 +7,9 @@ use Rattle.lists.specs.All.{All}
 use Rattle.lists.proofs.All.{all-zip}
 use Rattle.metric.specs.declared.Metric.{Metric}
 use Rattle.window.specs.Number.{sequenceNumbers}
-use Rattle.history.specs.Calls.{Call, CallInRange, Store, storeRun, Accepted}
+use Rattle.streams.specs.Reading.{Store, Fresh}
+use Rattle.history.specs.Calls.{Call, CallInRange, storeRun, Accepted}
 use Rattle.history.specs.Meaning.{topOf, entriesOf, EntryInRange}
-use Rattle.history.specs.Reading.{Fresh}
 use Rattle.history.proofs.ByHistory.{entries-in-range}
 use Rattle.reports.specs.declared.MetricAnswer.{MetricAnswer}
 use Rattle.cutting.specs.declared.Request.{Request}

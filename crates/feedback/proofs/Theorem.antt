@@ -13,9 +13,10 @@ use Rattle.ring.specs.Ring.{cellsOfAPlace}
 use Rattle.places.specs.Place.{findOf, placeAt}
 use Rattle.places.specs.Held.{HeldAt}
 use Rattle.places.proofs.Held.{held-found}
-use Rattle.history.specs.Calls.{Call, CallInRange, Store, storeRun, Accepted}
+use Rattle.streams.specs.Reading.{Store, Fresh}
+use Rattle.history.specs.Calls.{Call, CallInRange, storeRun, Accepted}
 use Rattle.history.specs.Meaning.{topOf, entriesOf}
-use Rattle.history.specs.Reading.{Holds, Fresh}
+use Rattle.history.specs.Reading.{Holds}
 use Rattle.history.proofs.ByHistory.{by-history}
 use Rattle.history.proofs.Filled.{as-arrivals}
 use Rattle.cutting.specs.Cutting.{numbersFrom}

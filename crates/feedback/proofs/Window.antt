@@ -10,9 +10,9 @@ use Rattle.ring.specs.Ring.{cellsOfAPlace}
 use Rattle.place_window.specs.Window.{cellAt}
 use Rattle.places.specs.declared.Holding.{Holding}
 use Rattle.cells.specs.Cell.{readCell}
+use Rattle.streams.proofs.Numbers.{same-slot}
 use Rattle.history.specs.Meaning.{Entry, cellBy}
 use Rattle.history.specs.Reading.{Holds}
-use Rattle.history.proofs.Numbers.{same-slot}
 use Rattle.cutting.specs.Cutting.{following, numbersFrom}
 use Rattle.feedback.specs.Seen.{fullNumber, StandsFor}
 use lib.ListN.{getD}

@@ -9,7 +9,8 @@ use Rattle.metric.specs.Metric.{seenOf}
 use Rattle.metric.specs.declared.Metric.{Metric}
 use Rattle.window.specs.Number.{sequenceNumbers, distanceOf}
 use Rattle.ring.specs.Ring.{cellsOfAPlace}
-use Rattle.history.specs.Calls.{Call, Store, storeRun, storeAnswers, Accepted, acceptedOf}
+use Rattle.streams.specs.Reading.{Store}
+use Rattle.history.specs.Calls.{Call, storeRun, storeAnswers, Accepted, acceptedOf}
 use Rattle.history.specs.Meaning.{topOf, entriesOf, cellBy, AsArrivals}
 use Rattle.walk.specs.Walk.{walkOf}
 use Rattle.walk.specs.declared.ReportBlock.{ReportBlock}

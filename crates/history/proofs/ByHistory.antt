@@ -12,7 +12,7 @@ use lib.ListN.{length}
 use Rattle.lists.specs.All.{All}
 use Rattle.lists.specs.declared.Found.{Found}
 use Rattle.lists.proofs.First.{first-true}
-use Rattle.lists.proofs.All.{all-append}
+use Rattle.lists.proofs.All.{all-append, all-zip}
 use Rattle.lists.proofs.Cases.{never}
 use Rattle.metric.specs.declared.Time.{Time}
 use Rattle.places.specs.Place.{placeAt, isStream, findOf}
@@ -22,18 +22,21 @@ use Rattle.place_window.specs.Window.{cellAt}
 use Rattle.cells.specs.Cell.{readCell}
 use Rattle.store.specs.Store.{placeOf}
 use Rattle.cell_metrics.specs.Metrics.{cellMetric}
-use Rattle.history.specs.Calls.{Call, arrive, forget, CallAnswer, Store, storeRun, storeAnswers, Accepted, acceptedOf, isDone, heard, heardAll, CallInRange}
-use Rattle.history.specs.Meaning.{Entry, fullOf, firstFull, entryOf, countFrom, topFrom, entriesOf, topOf, AsArrivals, EntryInRange, AcceptedInRange}
-use Rattle.history.specs.Model.{Place, free, names, at, modelPlace, modelStep, modelAnswer, modelRun, modelAnswers, vacant}
-use Rattle.history.specs.Reading.{Holds, Reads, Fresh}
+use Rattle.streams.specs.Full.{fullOf, firstFull}
+use Rattle.streams.specs.Model.{Place, free, names, at, foundIn, vacant}
+use Rattle.streams.specs.Reading.{Store, Fresh}
+use Rattle.streams.proofs.Numbers.{full-low}
+use Rattle.streams.proofs.Places.{named, find-same}
+use Rattle.streams.proofs.Fresh.{fresh-reads}
+use Rattle.history.specs.Calls.{Call, arrive, forget, CallAnswer, storeRun, storeAnswers, Accepted, acceptedOf, isDone, heard, heardAll, CallInRange}
+use Rattle.history.specs.Meaning.{Entry, entryOf, countFrom, topFrom, entriesOf, topOf, AsArrivals, EntryInRange, AcceptedInRange}
+use Rattle.history.specs.Model.{modelPlace, modelStep, modelAnswer, modelRun, modelAnswers}
+use Rattle.history.specs.Reading.{arrivalMeaning, Holds, Reads}
 use Rattle.history.specs.Alone.{SameStream, unheld, held}
-use Rattle.history.proofs.Numbers.{full-low}
-use Rattle.history.proofs.Places.{named, find-same}
 use Rattle.history.proofs.Filled.{as-arrivals}
-use Rattle.history.proofs.Simulation.{place-alike, simulates, fresh-reads}
-use Rattle.history.proofs.Once.{foundIn}
+use Rattle.history.proofs.Simulation.{place-alike, simulates}
 use Rattle.history.proofs.Heard.{placeBy, Kept, run-kept, vacant-kept}
-use Rattle.metric.specs.Metric.{congested}
+use Rattle.metric.specs.Metric.{congested, TimeInRange}
 use Rattle.window.specs.Number.{sequenceNumbers}
 use Rattle.ring.specs.Ring.{cellsOfAPlace}
 use Rattle.lists.specs.declared.Found.the-variants.{At, Nothing}
@@ -41,11 +44,11 @@ use Rattle.places.specs.declared.Holding.the-variants.{Held}
 
 -- ---- accepted arrivals and their full numbers
 -- an accepted arrival has a mark of 0 to 3
-done-mark : (ps : List Place) (x number mark : ℕ) (time : Time) → isDone (modelAnswer ps (arrive x number mark time)) ≡ true → mark ≤ congested
+done-mark : (ps : List (Place Entry)) (x number mark : ℕ) (time : Time) → isDone (modelAnswer ps (arrive x number mark time)) ≡ true → mark ≤ congested
 done-mark ps x number mark time d =
     elim (decLe mark congested) [ yes m ↦ m | no m ↦ absurd (false≢true (rw (lt-ltb congested mark (omega arith)) at d)) ]
 
-heard-range : (y : ℕ) (l : List Accepted) (ps : List Place) (c : Call) → CallInRange c → All AcceptedInRange l
+heard-range : (y : ℕ) (l : List Accepted) (ps : List (Place Entry)) (c : Call) → CallInRange c → All AcceptedInRange l
     → All AcceptedInRange (heard y l c (isDone (modelAnswer ps c)))
 heard-range y l ps (arrive x number mark time) r h =
     picked (eqb x y) (isDone (modelAnswer ps (arrive x number mark time))) (λ d. (r .1 .0, (done-mark ps x number mark time d, r .1 .1)))
@@ -61,7 +64,7 @@ heard-range y l ps (forget x) r h = picked (eqb x y && isDone (modelAnswer ps (f
     picked true = tt
     picked false = h
 
-run-range : (y : ℕ) (cs : List Call) (ps : List Place) (l : List Accepted) → All CallInRange cs
+run-range : (y : ℕ) (cs : List Call) (ps : List (Place Entry)) (l : List Accepted) → All CallInRange cs
     → All AcceptedInRange l → All AcceptedInRange (heardAll y l cs (modelAnswers ps cs))
 run-range y [] ps l r h = h
 run-range y (c ∷ cs) ps l r h = run-range y cs (modelStep ps c) (heard y l c (isDone (modelAnswer ps c))) (r .1) (heard-range y l ps c (r .0) h)
@@ -79,6 +82,19 @@ numbers-kept (a ∷ l) h =
     let e : (sequenceNumbers + a .number) % sequenceNumbers ≡ a .number = omega (arith, h .0 .0) in
     rw (e, count-numbers l (sequenceNumbers + a .number) (omega arith) (h .1))
 
+-- each entry has the mark and the time of its arrival
+abbrev MarkAndTimeInRange : Entry → Type 0
+MarkAndTimeInRange e = (e .mark ≤ congested) × TimeInRange (e .time)
+
+count-kept : (l : List Accepted) (top : ℕ) → All AcceptedInRange l → All MarkAndTimeInRange (countFrom top l)
+unfolding countFrom
+count-kept [] top h = tt
+count-kept (a ∷ l) top h = (h .0 .1, count-kept l (max top (fullOf top (a .number))) (h .1))
+
+entries-kept : (l : List Accepted) → All AcceptedInRange l → All MarkAndTimeInRange (entriesOf l)
+entries-kept [] h = tt
+entries-kept (a ∷ l) h = (h .0 .1, count-kept l (firstFull (a .number)) (h .1))
+
 -- the highest full number is that of an arrival
 abbrev Attained : ℕ → ℕ → List Entry → Type 0
 Attained top t es = (t ≡ top) ⊎ ((e : Entry) × (List·Memᴰ e es × (e .full ≡ t)))
@@ -89,21 +105,21 @@ count-attained [] top = inl refl
 count-attained (a ∷ l) top = ⊎-elim (λ h. here h) (λ h. inr (h .0, (List·Memᴰ·tail (h .1 .0), h .1 .1))) (count-attained l (max top (fullOf top (a .number))))
   where
     here : topFrom (max top (fullOf top (a .number))) l ≡ max top (fullOf top (a .number))
-        → Attained top (topFrom (max top (fullOf top (a .number))) l) (entryOf (fullOf top (a .number)) a ∷ countFrom (max top (fullOf top (a .number))) l)
+        → Attained top (topFrom (max top (fullOf top (a .number))) l) (entryOf a (fullOf top (a .number)) ∷ countFrom (max top (fullOf top (a .number))) l)
     here h =
         elim (decLe (fullOf top (a .number)) top) [
           | yes q ↦ inl (omega arith)
-          | no q ↦ inr (entryOf (fullOf top (a .number)) a, (List·Memᴰ·head refl, omega arith))
+          | no q ↦ inr (entryOf a (fullOf top (a .number)), (List·Memᴰ·head refl, omega arith))
         ]
 
 pub highest-attained : (a : Accepted) (l : List Accepted) → (e : Entry) × (List·Memᴰ e (entriesOf (a ∷ l)) × (e .full ≡ topOf (a ∷ l)))
 highest-attained a l =
-    ⊎-elim (λ h. (entryOf (firstFull (a .number)) a, (List·Memᴰ·head refl, sym h)))
+    ⊎-elim (λ h. (entryOf a (firstFull (a .number)), (List·Memᴰ·head refl, sym h)))
     (λ h. (h .0, (List·Memᴰ·tail (h .1 .0), h .1 .1))) (count-attained l (firstFull (a .number)))
 
 -- ---- every list of calls to a fresh store
 module _ (st : Store) (new : Fresh st) (cs : List Call) (range : All CallInRange cs) where
-  abbrev model : List Place
+  abbrev model : List (Place Entry)
   model = modelRun (vacant (length (st .places))) cs
 
   abbrev history : ℕ → List Accepted
@@ -111,11 +127,11 @@ module _ (st : Store) (new : Fresh st) (cs : List Call) (range : All CallInRange
 
   -- the store answers each call as the machine does
   pub same-answers : storeAnswers st cs ≡ modelAnswers (vacant (length (st .places))) cs
-  same-answers = simulates cs range st (vacant (length (st .places))) (fresh-reads st new) .0
+  same-answers = simulates cs range st (vacant (length (st .places))) (fresh-reads arrivalMeaning st new) .0
 
   -- and reads as the machine says, place by place and cell by cell
   pub same-reading : Reads (storeRun st cs) model
-  same-reading = simulates cs range st (vacant (length (st .places))) (fresh-reads st new) .1
+  same-reading = simulates cs range st (vacant (length (st .places))) (fresh-reads arrivalMeaning st new) .1
 
   pub same-place : (k : ℕ) → placeOf (storeRun st cs .places) (storeRun st cs .cells) k ≡ modelPlace (at model k)
   same-place k = place-alike (storeRun st cs) model same-reading k
@@ -130,13 +146,13 @@ module _ (st : Store) (new : Fresh st) (cs : List Call) (range : All CallInRange
     where
       test : (k h : ℕ) → placeAt (storeRun st cs .places) k ≡ Held ssrc h → names ssrc (at model k) ≡ true
       test k h e =
-          sym (named (storeRun st cs .cells) k (placeAt (storeRun st cs .places) k) ssrc (at model k) (same-reading .each k))
+          sym (named arrivalMeaning (storeRun st cs .cells) k (placeAt (storeRun st cs .places) k) ssrc (at model k) (same-reading .each k))
           ∙ ap (isStream ssrc) e
           ∙ eq-eqb ssrc ssrc refl
 
   module _ (ssrc : ℕ) where
     found-by : (f : Found) → findOf (storeRun st cs .places) ssrc ≡ f → foundIn f model ≡ placeBy ssrc (history ssrc)
-    found-by f e = ap (λ (g : Found). foundIn g model) (sym (sym (find-same (storeRun st cs) model same-reading ssrc) ∙ e)) ∙ kept .each ssrc
+    found-by f e = ap (λ (g : Found). foundIn g model) (sym (sym (find-same arrivalMeaning (storeRun st cs) model same-reading ssrc) ∙ e)) ∙ kept .each ssrc
 
     -- a stream that the store does not hold has no accepted arrival since it was forgotten, and the other way round
     pub not-held : findOf (storeRun st cs .places) ssrc ≡ Nothing → history ssrc ≡ []
@@ -148,7 +164,7 @@ module _ (st : Store) (new : Fresh st) (cs : List Call) (range : All CallInRange
 
     not-free : (p : ℕ) → findOf (storeRun st cs .places) ssrc ≡ At p → at model p ≡ free → ⊥
     not-free p found e =
-        let t = first-true (λ (k : ℕ). names ssrc (at model k)) (length model) 0 p (sym (find-same (storeRun st cs) model same-reading ssrc) ∙ found) in
+        let t = first-true (λ (k : ℕ). names ssrc (at model k)) (length model) 0 p (sym (find-same arrivalMeaning (storeRun st cs) model same-reading ssrc) ∙ found) in
         false≢true (sym (ap (names ssrc) e) ∙ t)
 
     pub none-held : history ssrc ≡ [] → findOf (storeRun st cs .places) ssrc ≡ Nothing
@@ -183,7 +199,9 @@ module _ (st : Store) (new : Fresh st) (cs : List Call) (range : All CallInRange
     entries-in-range = by-search (findOf (storeRun st cs .places) ssrc) refl
       where
         by-search : (f : Found) → findOf (storeRun st cs .places) ssrc ≡ f → All EntryInRange (entriesOf (history ssrc))
-        by-search (At p) e = by-history p e .inRange
+        by-search (At p) e =
+            all-zip (entriesOf (history ssrc)) (λ d low kept. (low, kept)) (by-history p e .lowest)
+            (entries-kept (history ssrc) accepted-in-range)
         by-search Nothing e = rw (not-held e) tt
 
 -- ---- a stream by itself

@@ -1,10 +1,9 @@
 -- What one more accepted arrival makes of a cell's meaning. Assumes nothing.
-use Prim.Native.Nat.{ℕ, _<_, _≤_}
+use Prim.Native.Nat.{ℕ}
 use mathlib.Core.Path.{_≡_, refl, sym, ap, _∙_}
 use mathlib.Core.Bool.{Bool, true, false, cond, _||_}
 use mathlib.Core.List.{List, [], _∷_, _++_, List·Memᴰ, List·Memᴰ·head, List·Memᴰ·tail, List·Memᴰ·not-nil, List·Memᴰ·cases-cons}
 use mathlib.Core.Logic.{⊎-elim}
-use native.Mathlib.Omega.{arith}
 use native.Mathlib.Decide.{ℕ-discrete}
 use borrow.Author.Tests.{eq-eqb, ne-eqb}
 use lib.Dec.{eqb}
@@ -66,20 +65,11 @@ module _ (e : Entry) (n : ℕ) where
   pub by-other : (e .full ≡ n → ⊥) → (es : List Entry) → cellBy (es ++ (e ∷ [])) n ≡ cellBy es n
   by-other q es = ap cellOf (copies-other q es)
 
-pub by-none : (n : ℕ) → cellBy [] n ≡ Empty
+-- arrivals of other full numbers leave the cell empty
+pub by-none : (n : ℕ) (es : List Entry) → All (λ (e : Entry). e .full ≡ n → ⊥) es → cellBy es n ≡ Empty
 unfolding copiesOf
-by-none n = refl
-
--- above the highest full number there is no arrival
-pub copies-above : (top n : ℕ) (es : List Entry) → All (λ (e : Entry). e .full ≤ top) es → top < n → copiesOf es n ≡ []
-unfolding copiesOf
-copies-above top n [] h l = refl
-copies-above top n (e ∷ es) h l =
-    let q : e .full ≡ n → ⊥ = (λ g. omega (arith, h .0)) in
-    rw (ne-eqb (e .full) n q) (copies-above top n es (h .1) l)
-
-pub by-above : (top n : ℕ) (es : List Entry) → All (λ (e : Entry). e .full ≤ top) es → top < n → cellBy es n ≡ Empty
-by-above top n es h l = ap cellOf (copies-above top n es h l)
+by-none n [] h = refl
+by-none n (e ∷ es) h = rw (ne-eqb (e .full) n (h .0)) (by-none n es (h .1))
 
 module _ (n : ℕ) where
   -- the copies are the entries of the full number n

@@ -1,9 +1,6 @@
-pub mod Numbers
 pub mod Copies
 pub mod Cells
-pub mod Places
 pub mod Simulation
-pub mod Once
 pub mod Heard
 pub mod Filled
 pub mod ByHistory

@@ -4,7 +4,7 @@ use Prim.Native.Nat.{ℕ}
 use mathlib.Core.Path.{_≡_}
 use Rattle.places.specs.Held.{Unheld, HeldAt}
 use Rattle.cell_metrics.specs.Metrics.{cellMetric}
-use Rattle.history.specs.Calls.{Store}
+use Rattle.streams.specs.Reading.{Store}
 
 -- two stores say the same of a stream
 pub data SameStream (a b : Store) (ssrc : ℕ) : Type 0 where

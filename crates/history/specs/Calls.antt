@@ -11,6 +11,8 @@ use Rattle.store.specs.Store.{forgotten}
 use Rattle.later_arrivals.specs.declared.Arrival.{Arrival}
 use Rattle.store.specs.declared.Forgetting.{Forgetting}
 use Rattle.window.specs.Number.{sequenceNumbers}
+use Rattle.streams.specs.Reading.{Store}
+use Rattle.streams.specs.Runs.{run, answers}
 use Rattle.later_arrivals.specs.declared.Arrival.the-variants as arrival
 use Rattle.store.specs.declared.Forgetting.the-variants as forgetting
 
@@ -22,21 +24,6 @@ pub data Call : Type 0 where
 pub data CallAnswer : Type 0 where
   toArrival : Arrival → CallAnswer
   toForgetting : Forgetting → CallAnswer
-
--- any store that takes these calls: what each call leaves, and its answer
-module _ {S : Type 0} (step : S → Call → S) (answer : S → Call → CallAnswer) where
-  abbrev pub run : S → List Call → S
-  run s [] = s
-  run s (c ∷ cs) = run (step s c) cs
-
-  abbrev pub answers : S → List Call → List CallAnswer
-  answers s [] = []
-  answers s (c ∷ cs) = answer s c ∷ answers (step s c) cs
-
--- the store in the two lent slices
-pub record Store : Type 0 where
-  pub places : List ℕ
-  pub cells : List ℕ
 
 abbrev pub storeStep : Store → Call → Store
 storeStep st (arrive ssrc number mark time) =

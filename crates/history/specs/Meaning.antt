@@ -1,16 +1,16 @@
--- Rules: "What a store means". What the cells of a stream mean, by its accepted arrivals alone.
--- Each arrival has a full number: its sequence number, but without wrapping.
-use Prim.Native.Nat.{ℕ, _+_, _-_, _%_, _≤_, _<_, max}
+-- Rules: "What a store means". What the cells of a stream mean, by its accepted arrivals alone. Each
+-- arrival has a full number (of `streams`): its sequence number, but without wrapping.
+use Prim.Native.Nat.{ℕ, _≤_, _<_, max}
 use mathlib.Core.Bool.{Bool, false, cond, _||_}
 use mathlib.Core.Path.{_≡_}
 use mathlib.Core.List.{List, [], _∷_, List·Memᴰ}
-use lib.Dec.{eqb, leb}
+use lib.Dec.{eqb}
 use Rattle.metric.specs.declared.Time.{Time}
 use Rattle.metric.specs.declared.Cell.{Cell}
 use Rattle.metric.specs.Metric.{TimeInRange, congested}
-use Rattle.window.specs.Number.{distanceOf, sequenceNumbers, farthestAhead}
+use Rattle.window.specs.Number.{sequenceNumbers}
+use Rattle.streams.specs.Full.{fullOf, firstFull, lowestFull}
 use Rattle.history.specs.Calls.{Accepted}
-use Rattle.ring.specs.Ring.{cellsOfAPlace}
 use Rattle.metric.specs.declared.Cell.the-variants.{Empty, Filled}
 
 -- an accepted arrival with its full number
@@ -19,29 +19,13 @@ pub record Entry : Type 0 where
   pub mark : ℕ
   pub time : Time
 
--- f from 0 to 32,767
-abbrev pub notBehind : ℕ → Bool
-notBehind f = leb f farthestAhead
-
--- f numbers ahead of the highest, or 65536 - f behind it
-abbrev pub countedOn : ℕ → ℕ → ℕ
-countedOn top f = cond (notBehind f) (top + f) (top + f - sequenceNumbers)
-
--- rule "Full number": that of an arrival, by the highest full number before it
-unfoldable pub fullOf : ℕ → ℕ → ℕ
-fullOf top number = countedOn top (distanceOf number (top % sequenceNumbers))
-
--- the first full number of a stream: high enough that no number of its window goes below 0
-abbrev pub firstFull : ℕ → ℕ
-firstFull number = sequenceNumbers + number
-
-abbrev pub entryOf : ℕ → Accepted → Entry
-entryOf full a = record { full = full; mark = a .mark; time = a .time }
+abbrev pub entryOf : Accepted → ℕ → Entry
+entryOf a full = record { full = full; mark = a .mark; time = a .time }
 
 -- accepted arrivals with their full numbers, and the highest full number after them
 unfoldable pub countFrom : ℕ → List Accepted → List Entry
 countFrom top [] = []
-countFrom top (a ∷ more) = let full = fullOf top (a .number) in entryOf full a ∷ countFrom (max top full) more
+countFrom top (a ∷ more) = let full = fullOf top (a .number) in entryOf a full ∷ countFrom (max top full) more
 
 unfoldable pub topFrom : ℕ → List Accepted → ℕ
 topFrom top [] = top
@@ -49,7 +33,7 @@ topFrom top (a ∷ more) = topFrom (max top (fullOf top (a .number))) more
 
 abbrev pub entriesOf : List Accepted → List Entry
 entriesOf [] = []
-entriesOf (a ∷ more) = entryOf (firstFull (a .number)) a ∷ countFrom (firstFull (a .number)) more
+entriesOf (a ∷ more) = entryOf a (firstFull (a .number)) ∷ countFrom (firstFull (a .number)) more
 
 abbrev pub topOf : List Accepted → ℕ
 topOf [] = 0
@@ -87,10 +71,6 @@ pub record AsArrivals (c : Cell) (es : List Entry) (n : ℕ) : Type 0 where
   -- else the first one's mark
   pub other : (mark : ℕ) (time : Time) (e : Entry) (rest : List Entry) → c ≡ Filled mark time → copiesOf es n ≡ e ∷ rest
       → ((d : Entry) → List·Memᴰ d es → d .full ≡ n → d .mark ≡ congested → ⊥) → mark ≡ e .mark
-
--- the lowest number of the lowest window of a stream
-abbrev pub lowestFull : ℕ
-lowestFull = sequenceNumbers - (cellsOfAPlace - 1)
 
 -- an entry's full number is one of a window, its mark one of the four, its time a 32-bit count
 abbrev pub EntryInRange : Entry → Type 0

@@ -21,9 +21,9 @@ use Rattle.places.specs.After.{StoreAfter}
 use Rattle.places.proofs.Shape.{shaped-is, misshapen-is}
 use Rattle.arrivals.specs.Arrivals.{arrived}
 use Rattle.later_arrivals.specs.declared.Arrival.{Arrival}
-use Rattle.history.specs.Calls.{Store, CallInRange, storeRun}
-use Rattle.history.specs.Reading.{Fresh}
-use Rattle.history.proofs.Simulation.{zeroed-fresh}
+use Rattle.streams.specs.Reading.{Store, Fresh}
+use Rattle.streams.proofs.Fresh.{zeroed-fresh}
+use Rattle.history.specs.Calls.{CallInRange, storeRun}
 use Rattle.history.proofs.ByHistory.{same-reading, no-ssrc-twice}
 use Rattle.history.proofs.Refusals.{arrival-given}
 use Rattle.arrival_record.specs.declared.Record.{Record}

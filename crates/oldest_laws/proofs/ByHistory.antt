@@ -18,9 +18,10 @@ use Rattle.places.proofs.Held.{held-found}
 use Rattle.places.proofs.Shape.{shaped-is}
 use Rattle.place_window.specs.Window.{cellAt}
 use Rattle.cells.specs.Cell.{readCell}
-use Rattle.history.specs.Calls.{Call, CallInRange, Store, storeRun, Accepted}
+use Rattle.streams.specs.Reading.{Store, Fresh}
+use Rattle.history.specs.Calls.{Call, CallInRange, storeRun, Accepted}
 use Rattle.history.specs.Meaning.{Entry, topOf, entriesOf, cellBy}
-use Rattle.history.specs.Reading.{Holds, Fresh}
+use Rattle.history.specs.Reading.{Holds}
 use Rattle.history.proofs.ByHistory.{by-history, no-ssrc-twice, same-reading, highest-attained}
 use Rattle.history.proofs.Filled.{as-arrivals}
 use Rattle.feedback.specs.Seen.{StandsFor, historyOf}
