@@ -108,15 +108,21 @@ fn received_word(metric: u16, rts: u32) -> u64
 }
 
 // A cell's word after a metric of its number, in a packet with that RTS.
+// Branch-free on purpose: over many metrics these branches are unpredictable and cost time.
 pub fn word_reported(word: u64, metric: u16, rts: u32) -> u64
     ensures value { λ r. ⌜ r ≡ wordReported metric rts word ⌝ }
 {
     let kind = word % KINDS;
+    let missing = if kind == NOT_REPORTED { MISSING } else { word };
+    let received = received_word(metric, rts);
+    let reported = if metric < RECEIVED_BIT {
+        missing
+    } else {
+        received
+    };
     if kind == NOT_REGISTERED {
-        return word;
+        word
+    } else {
+        reported
     }
-    if RECEIVED_BIT <= metric {
-        return received_word(metric, rts);
-    }
-    if kind == NOT_REPORTED { MISSING } else { word }
 }

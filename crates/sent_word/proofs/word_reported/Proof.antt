@@ -1,22 +1,27 @@
 -- `sent_word::word_reported` meets its contract. Assumes nothing.
 use mathlib.Core.Path.{sym, _∙_}
-use native.Mathlib.Omega.{arith}
+use mathlib.Core.Logic.{⊎-elim}
 use Rattle.sent_word.proofs.ByKind.{reported-none, reported-received, reported-missing, reported-kept}
 use borrow.Author.Needs.{needs}
 use Rattle.sent_word.proofs.word_reported.Statement.{statement}
 use Rattle.sent_word.proofs.word_reported.Tie as tie
 
 returns : tie.Need-returns
-returns c = sym (reported-none _ _ _ (c .if1 .taken))
+returns c = sym (reported-none _ _ _ (c .if3 .taken))
 
 returns-2 : tie.Need-returns-2
-returns-2 c = c .received-word .ensures ∙ sym (reported-received _ _ _ (c .before .before .if1 .left) (c .before .if2 .taken))
-
-returns-3 : tie.Need-returns-3
-returns-3 c = sym (reported-missing _ _ _ (c .before .before .if1 .left) (c .before .if2 .left) (c .if3 .taken))
-
-returns-4 : tie.Need-returns-4
-returns-4 c = sym (reported-kept _ _ _ (c .before .before .if1 .left) (c .before .if2 .left) (c .if3 .left))
+returns-2 c =
+    let known = c .if3 .left in
+    let chosen = c .before in
+    let arrived = chosen .before .received-word in
+    let lost = chosen .before .before in
+    ⊎-elim
+    (λ m. m .1 ∙ ⊎-elim
+    (λ k. k .1 ∙ sym (reported-missing _ _ _ known (m .0 .taken) (k .0 .taken)))
+    (λ k. k .1 ∙ sym (reported-kept _ _ _ known (m .0 .taken) (k .0 .left)))
+    (lost .if1 .came))
+    (λ m. m .1 ∙ arrived .ensures ∙ sym (reported-received _ _ _ known (m .0 .left)))
+    (chosen .if2 .came)
 
 pub word-reported-spec : {M : Type 1} → statement M
-word-reported-spec = tie.close (tie.spec returns (λ c κs. search needs) returns-2 returns-3 returns-4)
+word-reported-spec = tie.close (tie.spec (λ c κs. search needs) returns returns-2)
