@@ -15,7 +15,8 @@ use Rattle.places.specs.Shape.{shaped, Ready}
 use Rattle.place_window.specs.Window.{opened, continued}
 use Rattle.places.specs.After.{storeAfter}
 use Rattle.cells.specs.Cell.{filledWord, wordAfter}
-use Rattle.later_arrivals.proofs.Opening.{moved-opened}
+use Rattle.place_window.proofs.Opening.{moved-opened}
+use Rattle.cells.proofs.Words.{after-empty}
 use Rattle.arrivals.specs.Arrivals.{arrivalRefused, arrived}
 use Rattle.metric.specs.Metric.{congested}
 use Rattle.later_arrivals.specs.declared.Arrival.the-variants.{Accepted, Refused}
@@ -37,7 +38,8 @@ module _ (places cells : List ℕ) (ssrc number mark : ℕ) (time : Time) where
           → storeAfter Accepted (set places p (placeWord ssrc number)) (opened cells p number cellsOfAPlace (filledWord mark time))
           ≡ arrived places cells ssrc number mark time
       arrived-new p f o r =
-          moved-opened places cells p ssrc number cellsOfAPlace mark time r (omega arith) (omega arith)
+          moved-opened Accepted Refused (wordAfter mark time) (filledWord mark time) (after-empty 0 mark time (omega arith)) places cells p ssrc number r
+          cellsOfAPlace (omega arith) (omega arith)
           ∙ rw (s, le-ltb congested mark low, f, o)
 
       pub arrived-full : findOf places ssrc ≡ Nothing → freeOf places ≡ Nothing

@@ -7,7 +7,8 @@ use Rattle.ring.specs.Ring.{cellsOfAPlace}
 use Rattle.window.proofs.Number.{ahead-is}
 use Rattle.places.specs.Place.{highestAt}
 use Rattle.place_window.proofs.Moving.{continued-by}
-use Rattle.later_arrivals.proofs.Opening.{continued-ahead}
+use Rattle.place_window.proofs.Opening.{continued-ahead}
+use Rattle.cells.proofs.Words.{after-empty}
 use borrow.Author.Needs.{needs}
 use Rattle.later_arrivals.proofs.resume.Statement.{statement}
 use Rattle.later_arrivals.proofs.resume.Tie as tie
@@ -39,9 +40,8 @@ returns c =
     let told = filled .before .before in
     let after-highest-at-arg = told .before .before .before .before in
     let pre = after-highest-at-arg .before .before .before .pre in
-    let args = after-highest-at-arg .before .before .before .args in
     rw (opened .open-window .ensures .0, opened .open-window .ensures .1, filled .filled-word .ensures, opened .before .newly .ensures)
-    (continued-ahead _ _ _ _ _ _ _ pre _
+    (continued-ahead _ _ _ _ (after-empty 0 _ _ (omega arith)) _ _ _ _ _ pre _
     (sym (step-is (told .before .before)) ∙ told .step .given .1))
 
 returns-2 : tie.Need-returns-2
