@@ -14,10 +14,11 @@ use Rattle.walk.specs.Walk.{stepAt}
 use Rattle.walk.specs.declared.ReportBlock.{ReportBlock}
 use Rattle.metric_part.specs.Part.{partOf, caseAt}
 use Rattle.reports.specs.Reports.{Within, reportedIn}
+use Rattle.reports.proofs.Within.{within}
 use Rattle.reader.specs.Reading.{decodePacket, readOf}
 use Rattle.block_reader.specs.Blocks.{readBlock}
 use Rattle.block_reader.specs.declared.BlockAnswer.{BlockAnswer}
-use Rattle.metric_reader.proofs.Within.{within, located-within}
+use Rattle.metric_reader.proofs.Within.{located-within}
 use Rattle.ccfb_calls.specs.Called.{called}
 use Rattle.ccfb_reports.specs.Reports.{partCalled}
 use Rattle.call_laws.specs.Walk.{Memory, WalkGives}

@@ -2,24 +2,18 @@
 use Prim.Native.Nat.{ℕ, zero, suc}
 use mathlib.Core.Path.{_≡_, refl}
 use mathlib.Core.List.{List, [], _∷_}
-use native.Mathlib.Omega.{arith}
 use Rattle.lists.specs.All.{All}
 use Rattle.lists.proofs.Cases.{never}
-use Rattle.walk.specs.Walk.{stepAt, Walked, walked, stopped, walkOf}
+use Rattle.walk.specs.Walk.{Walked, walked, stopped, walkOf}
 use Rattle.walk.specs.declared.ReportBlock.{ReportBlock}
-use Rattle.packet_header.specs.declared.Cursor.{Cursor}
-use Rattle.walk.proofs.Steps.{found}
 use Rattle.walk.proofs.Walks.{walk-ind}
 use Rattle.reports.specs.Reports.{Within}
+use Rattle.reports.proofs.Within.{within}
 use Rattle.reader.proofs.Answers.{walked-sound}
 use Rattle.block_reader.specs.Blocks.{nth, located}
-use Rattle.walk.specs.declared.Step.the-variants.{Block}
 use Rattle.block_reader.specs.declared.BlockAnswer.the-variants as answer
 
 module _ (s : List ℕ) where
-  pub within : (at : ℕ) (b : ReportBlock) (next : Cursor) → stepAt s at ≡ Block b next → Within s b
-  within at b next e = let f = found s at b next e in rw (f .is) (record { room = omega (arith, f .room) })
-
   nth-within : (bs : List ReportBlock) (k : ℕ) (b : ReportBlock) → All (Within s) bs → nth bs k ≡ answer.Found b → Within s b
   nth-within [] k b a e = never (cc)
   nth-within (x ∷ bs) zero b a e = let z : x ≡ b = cc in rw z at (a .0)
@@ -31,5 +25,5 @@ module _ (s : List ℕ) where
       by-walk : (w : Walked) → walkOf s ≡ w → located w k ≡ answer.Found b → Within s b
       by-walk (walked bs) f h =
           nth-within bs k b
-          (walk-ind s (λ at bs. All (Within s) bs) (λ at h. tt) (λ at b next bs f r. (within at b next f, r)) 8 bs (walked-sound s bs f .1)) h
+          (walk-ind s (λ at bs. All (Within s) bs) (λ at h. tt) (λ at b next bs f r. (within s at b next f, r)) 8 bs (walked-sound s bs f .1)) h
       by-walk (stopped x) f h = never (cc)

@@ -17,12 +17,12 @@ use Rattle.walk.specs.Walk.{Walked, walked, stopped, walkOf}
 use Rattle.walk.specs.declared.ReportBlock.{ReportBlock}
 use Rattle.walk.proofs.Walks.{walk-ind}
 use Rattle.reports.specs.Reports.{reportedIn, Within}
+use Rattle.reports.proofs.Within.{within}
 use Rattle.metric_part.specs.Part.{caseAt}
 use Rattle.reader.specs.Reading.{packet, metricsAt, blockIn, packetIn, decoded, decodePacket}
 use Rattle.reader.proofs.Answers.{length-metricsAt, walked-sound}
 use Rattle.block_reader.specs.Blocks.{nth, readBlock}
 use Rattle.metric_reader.specs.Metrics.{metricsPart, reportedOf, readMetric}
-use Rattle.metric_reader.proofs.Within.{within}
 use Rattle.rewriter.proofs.Output.{octets-read}
 use Rattle.packet_laws.specs.Asked.{laid, metricsOf, blockMetric, packetMetric, caseOf}
 use Rattle.packet_laws.proofs.Back.{back-metrics}
