@@ -1,2 +1,3 @@
 pub mod Moving
 pub mod Opening
+pub mod Given
