@@ -6,26 +6,20 @@ use mathlib.Core.Path.{_≡_}
 use mathlib.Core.List.{List}
 use lib.ListN.{length}
 use Rattle.refusal.specs.declared.Refusal.the-variants.{BadMark, NoFreePlace, TooOld, BadStore, NotHeld}
-use Rattle.window.specs.Number.{distanceOf, farthestAhead}
 use Rattle.places.specs.Place.{placeAt}
 use Rattle.places.specs.Shape.{Shaped, Misshapen}
 use Rattle.places.specs.After.{StoreAfter, PlacesAfter, placesAfter, storeAfter}
 use Rattle.places.specs.Held.{Unheld, HeldAt, Vacant}
+use Rattle.place_window.specs.Given.{Old}
 use Rattle.store.specs.declared.PlaceAnswer.{PlaceAnswer}
 use Rattle.store.specs.declared.Forgetting.{Forgetting}
 use Rattle.later_arrivals.specs.declared.Arrival.{Arrival}
 use Rattle.arrivals.specs.Arrivals.{arrivalRefused}
 use Rattle.metric.specs.Metric.{congested}
-use Rattle.ring.specs.Ring.{cellsOfAPlace}
 use Rattle.places.specs.declared.Holding.the-variants.{Free, Held}
 use Rattle.later_arrivals.specs.declared.Arrival.the-variants as arrival
 use Rattle.store.specs.declared.Forgetting.the-variants as forgetting
 use Rattle.store.specs.declared.PlaceAnswer.the-variants as answer
-
--- refusal 3: the number is not ahead of the highest, and it is 2,048 or more behind it
-pub record Old (high number : ℕ) : Type 0 where
-  pub notAhead : 0 < distanceOf number high → farthestAhead < distanceOf number high
-  pub below : cellsOfAPlace ≤ distanceOf high number
 
 -- an arrival: 4, 1; 3 if the stream is held, else 2. A refused one leaves the store as it was
 pub data ArrivalGiven (places cells : List ℕ) (ssrc number mark : ℕ) : StoreAfter Arrival → Type 0 where
