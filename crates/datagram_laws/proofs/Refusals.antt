@@ -14,7 +14,7 @@ use Rattle.refusal.specs.declared.Refusal.{Refusal}
 use Rattle.packet.specs.Packet.{packetType, format}
 use Rattle.packet_header.specs.Header.{typeOf, formatOf}
 use Rattle.reader.specs.Reading.{Decoded, packet, refused, decodePacket}
-use Rattle.packet_laws.specs.Refused.{Long, Typed, Fault, ReadingGiven}
+use Rattle.packet_laws.specs.Refused.{Long, Typed, Fault, ReadingGiven, OneOf}
 use Rattle.packet_laws.proofs.Refusals.{refused-given, given-refused}
 use Rattle.ccfb_calls.specs.Called.{refusedWith}
 use Rattle.call_laws.proofs.Numbers.{own-number, not-zero}
@@ -28,7 +28,7 @@ use Rattle.datagram.proofs.Rules.{held-walked, held-cases, broken-fault, fault-
 use Rattle.datagram_count.specs.Count.{countOf}
 use Rattle.datagram_reader.specs.Reading.{acceptedAs, readFeedback}
 use Rattle.ccfb_datagram.specs.Datagrams.{packetCalled}
-use Rattle.datagram_laws.specs.Refused.{CountGiven, FeedbackGiven, PacketGiven, OneOf, feedbackNumbers}
+use Rattle.datagram_laws.specs.Refused.{CountGiven, FeedbackGiven, PacketGiven, feedbackNumbers}
 use Rattle.datagram_laws.proofs.Kth.{Kth, there, past, kth, kth-all, kth-count, read-past, read-kth}
 use Rattle.refusal.specs.declared.Refusal.the-variants.{PacketTooShort, Padded, BadDatagram, NoPacket}
 use Rattle.datagram.specs.declared.PacketStep.the-variants.{Packet, End, Broken}

@@ -2,8 +2,6 @@
 -- condition holds, and that of none before it. The conditions are in the words of the rules, without
 -- the walk that decides them.
 use Prim.Native.Nat.{ℕ, _≤_}
-use mathlib.Core.Path.{_≡_}
-use mathlib.Core.Logic.{_⊎_}
 use mathlib.Core.List.{List, [], _∷_}
 use lib.ListN.{length, drop}
 use Rattle.refusal.specs.declared.Refusal.{Refusal}
@@ -28,11 +26,6 @@ pub data PacketGiven (s : List ℕ) (at : ℕ) : Refusal → Type 0 where
   atTheEnd : length s ≤ at → PacketGiven s at NoPacket
 
 -- ---- the numbers that can come
-
--- a number of a list
-abbrev pub OneOf : ℕ → List ℕ → Type 0
-OneOf n [] = ⊥
-OneOf n (m ∷ ms) = (n ≡ m) ⊎ OneOf n ms
 
 -- those of CCFB packet k: 22 to 24 are not among them, since the walk has seen version, type, FMT
 -- and length

@@ -1,11 +1,13 @@
 -- Each refusal is given exactly if its condition holds and none before it. Assumes nothing.
 use Prim.Native.Nat.{ℕ, zero, suc, _+_, _-_, _*_, _%_, _<_, _≤_}
+use mathlib.Core.Logic.{inl, inr}
 use mathlib.Core.Path.{_≡_, refl, sym, ap, subst, _∙_}
 use mathlib.Core.List.{List, [], _∷_}
 use native.Mathlib.Omega.{arith}
 use borrow.Author.Tests.{lt-leb, le-leb, lt-ltb, le-ltb, eq-eqb, ne-eqb}
 use lib.ListN.{length, length-map}
 use Rattle.lists.proofs.Cases.{never, split-le, split-eq}
+use Rattle.refusal.specs.Numbers.{numberOf}
 use Rattle.refusal.specs.declared.Refusal.{Refusal}
 use Rattle.octets.specs.Octets.{be16}
 use Rattle.octets.specs.Output.{OutputAfter, outputAfter}
@@ -32,7 +34,7 @@ use Rattle.rewriter.specs.Rewrite.{rewriteOf}
 use Rattle.rewriter.specs.declared.Rewriting.{Rewriting}
 use Rattle.packet_laws.specs.Asked.{metricsOf, packetMetric}
 use Rattle.packet_laws.specs.Refused.{Long, Version, Typed, Sound, numReports, metricsEnd, SoundBlock, Walks, here, past, Fault}
-use Rattle.packet_laws.specs.Refused.{headerRoom, tooMany, metricsRoom, fillerSet, ReadingGiven, BlockGiven, noBlock, MetricGiven, noNumber, RewritingGiven}
+use Rattle.packet_laws.specs.Refused.{headerRoom, tooMany, metricsRoom, fillerSet, ReadingGiven, BlockGiven, noBlock, MetricGiven, noNumber, RewritingGiven, OneOf, readerNumbers}
 use Rattle.packet_laws.proofs.Asked.{accepted, accepted-octets, metric-asked}
 use Rattle.refusal.specs.declared.Refusal.the-variants.{OutputTooShort, PacketTooShort, BadVersion, BadType, BadLength, Padded}
 use Rattle.refusal.specs.declared.Refusal.the-variants.{RunsIntoRts, TooManyReports, FillerNotZero, NoBlock, NoNumber}
@@ -219,6 +221,21 @@ module _ (s : List ℕ) where
   pub given-refused : (e : Refusal) → ReadingGiven s e → decodePacket s ≡ refused e
   unfolding decodePacket
   given-refused e g = rw (given-stopped e g)
+
+  fault-numbers : (at : ℕ) (e : Refusal) → Fault s at e → OneOf (numberOf e) readerNumbers
+  fault-numbers at e (headerRoom h r) = inr (inr (inr (inr (inr (inl refl)))))
+  fault-numbers at e (tooMany h m) = inr (inr (inr (inr (inr (inr (inl refl))))))
+  fault-numbers at e (metricsRoom h f m) = inr (inr (inr (inr (inr (inl refl)))))
+  fault-numbers at e (fillerSet h f m o z) = inr (inr (inr (inr (inr (inr (inr (inl refl)))))))
+
+  -- no others than 21 to 28 come
+  pub reader-numbers : (e : Refusal) → ReadingGiven s e → OneOf (numberOf e) readerNumbers
+  reader-numbers e (given.ReadingGiven.tooShort h) = inl refl
+  reader-numbers e (given.badVersion l v) = inr (inl refl)
+  reader-numbers e (given.badType l v t) = inr (inr (inl refl))
+  reader-numbers e (given.badLength l v t w) = inr (inr (inr (inl refl)))
+  reader-numbers e (given.padded l v t w u) = inr (inr (inr (inr (inl refl))))
+  reader-numbers e (given.inBlock at h w f) = fault-numbers at e f
 
   pub read-refused-given : (e : Refusal) → readOf (decodePacket s) ≡ reading.Refused e → ReadingGiven s e
   read-refused-given e h = by-decoded (decodePacket s) refl h

@@ -3,7 +3,8 @@
 -- without the walk that decides them.
 use Prim.Native.Nat.{ℕ, _+_, _*_, _%_, _<_, _≤_}
 use mathlib.Core.Path.{_≡_}
-use mathlib.Core.List.{List}
+use mathlib.Core.Logic.{_⊎_}
+use mathlib.Core.List.{List, [], _∷_}
 use lib.ListN.{length}
 use Rattle.refusal.specs.declared.Refusal.{Refusal}
 use Rattle.octets.specs.Octets.{be16}
@@ -96,3 +97,14 @@ pub data MetricGiven (s : List ℕ) (k j : ℕ) : Refusal → Type 0 where
 pub data RewritingGiven (s out : List ℕ) : Refusal → Type 0 where
   reader : {e : Refusal} → ReadingGiven s e → RewritingGiven s out e
   tooShort : (p : Packet) → decodePacket s ≡ packet p → length out < length s → RewritingGiven s out OutputTooShort
+
+-- ---- the numbers that can come
+
+-- a number of a list
+abbrev pub OneOf : ℕ → List ℕ → Type 0
+OneOf n [] = ⊥
+OneOf n (m ∷ ms) = (n ≡ m) ⊎ OneOf n ms
+
+-- the reader's
+abbrev pub readerNumbers : List ℕ
+readerNumbers = 21 ∷ 22 ∷ 23 ∷ 24 ∷ 25 ∷ 26 ∷ 27 ∷ 28 ∷ []
