@@ -1,4 +1,5 @@
--- A number is admitted or refused for the reason that the rules name, and for no other. Assumes nothing.
+-- A number is admitted or refused for the reason that the rules name, and for no other.
+-- Assumes nothing.
 use Prim.Native.Nat.{ℕ, _<_}
 use mathlib.Core.Path.{_≡_, refl, sym}
 use mathlib.Core.List.{List}

@@ -3,7 +3,7 @@
 -- the first is given, in the order that stands at each call.
 use Prim.Native.Nat.{ℕ, _≤_, _<_}
 use mathlib.Core.Path.{_≡_}
-use mathlib.Core.List.{List}
+use mathlib.Core.List.{List, [], _∷_}
 use Rattle.refusal.specs.declared.Refusal.{Refusal}
 use Rattle.ring.specs.Ring.{cellsOfAPlace}
 use Rattle.window.specs.Number.{distanceOf}
@@ -13,6 +13,7 @@ use Rattle.places.specs.After.{StoreAfter}
 use Rattle.place_window.specs.Window.{cellAt}
 use Rattle.packet.specs.Packet.{Packet}
 use Rattle.reader.specs.Reading.{packet, refused, decodePacket}
+use Rattle.packet_laws.specs.Refused.{ReadingGiven, readerNumbers}
 use Rattle.place_window.specs.Given.{AdmissionGiven}
 use Rattle.sent_word.specs.Word.{readWord}
 use Rattle.sent_word.specs.declared.Status.{Status}
@@ -50,3 +51,19 @@ pub data TakingGiven (places cells s : List ℕ) : CellsAfter TakingIn → Type 
   notRead : Shaped places cells → (e : Refusal) → decodePacket s ≡ refused e → TakingGiven places cells s (cellsAfter (taking.Refused e) cells)
   taken : Shaped places cells → (p : Packet) → decodePacket s ≡ packet p → (cells′ : List ℕ)
       → TakingGiven places cells s (cellsAfter taking.Taken cells′)
+
+-- its refusals in the words of the rules about packets
+pub data TakingRefused (places cells s : List ℕ) : Refusal → Type 0 where
+  badStore : Misshapen places cells → TakingRefused places cells s BadStore
+  reader : {e : Refusal} → Shaped places cells → ReadingGiven s e → TakingRefused places cells s e
+
+-- ---- the numbers that can come
+
+abbrev pub registrationNumbers : List ℕ
+registrationNumbers = 4 ∷ 3 ∷ 2 ∷ []
+
+abbrev pub statusNumbers : List ℕ
+statusNumbers = 4 ∷ 5 ∷ 37 ∷ []
+
+abbrev pub takingNumbers : List ℕ
+takingNumbers = 4 ∷ readerNumbers

@@ -1,0 +1,4 @@
+pub mod Numbers
+pub mod Register
+pub mod Status
+pub mod TakeIn
