@@ -28,7 +28,7 @@ use Rattle.streams.specs.Model.{notedAt, noted, laterAt, startedIn, admi
 use Rattle.streams.specs.Reading.{Store, Meaning, Lawful, Enters, Holds, Reads}
 use Rattle.streams.proofs.Numbers.{full-ahead, full-behind, full-low}
 use Rattle.streams.proofs.Cells.{length-updated, updated-away, length-newest, newest-away, silent-above, newest-reads, updated-reads}
-use Rattle.streams.proofs.Places.{named-is, vacant-is, later-old, later-in, noted-ahead, noted-old, noted-in, find-same, free-same, there-in, replaced}
+use Rattle.streams.proofs.Places.{named-is, vacant-is, later-old, later-in, added-to, noted-ahead, noted-old, noted-in, find-same, free-same, there-in, replaced}
 use Rattle.lists.specs.declared.Found.the-variants.{At, Nothing}
 use Rattle.window.specs.declared.Move.the-variants as move
 use Rattle.places.specs.declared.Holding.the-variants.{Held}
@@ -124,7 +124,10 @@ module _ {E C : Type 0} (M : Meaning E C) where
             let g = S .begun in
             let full = full-behind top number g numberLow (λ l. omega arith) in
             let same : max top (fullOf top number) ≡ top = omega arith in
-            rw (noted-in entry ps k ssrc (fullOf top number) (rw held (omega arith)) (rw held (omega arith)), held, same)
+            rw (
+              noted-in entry ps k ssrc (fullOf top number) (rw held (omega arith)) (rw held (omega arith)),
+              added-to entry ps k ssrc (fullOf top number) (stream ssrc top es) top held same,
+            )
             (within top (fullOf top number) es S (full-low top number g numberLow) (omega arith) (omega arith))
 
         -- and nothing where it is not in the window
@@ -211,8 +214,7 @@ module _ {E C : Type 0} (M : Meaning E C) where
               rw (
                 by (move.Within (distanceOf (top % sequenceNumbers) number)) (move-within (top % sequenceNumbers) number d b),
                 later-in entry ps k ssrc (fullOf top number) accepted refused (rw held (omega arith)),
-                held,
-                same,
+                added-to entry ps k ssrc (fullOf top number) (stream ssrc top es) top held same,
               )
               (record { answer = refl; reads = within k there top (fullOf top number) es holding (full-low top number g numberLow) (omega arith) (omega arith) })
 
@@ -225,8 +227,7 @@ module _ {E C : Type 0} (M : Meaning E C) where
               rw (
                 by (move.Ahead (distanceOf number (top % sequenceNumbers))) (move-ahead (top % sequenceNumbers) number l d),
                 later-in entry ps k ssrc (fullOf top number) accepted refused (rw held (omega arith)),
-                held,
-                same,
+                added-to entry ps k ssrc (fullOf top number) (stream ssrc top es) (fullOf top number) held same,
               )
               (record {
                 answer = refl;
@@ -260,7 +261,7 @@ module _ {E C : Type 0} (M : Meaning E C) where
         unfolding moved
         started-alike vacancy =
             let same : max 0 (firstFull number) ≡ firstFull number = omega arith in
-            rw (vacancy, same)
+            rw (added-to entry ps k ssrc (firstFull number) free (firstFull number) vacancy same)
             (record {
               answer = refl;
               reads = moved-on k there ssrcLow (firstFull number) cellsOfAPlace [] (omega arith) (omega arith) (omega arith)

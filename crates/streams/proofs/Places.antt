@@ -1,11 +1,12 @@
 -- The places of a store and those of the machine, side by side, over any entries. Assumes nothing.
-use Prim.Native.Nat.{ℕ, _+_, _<_, _≤_}
+use Prim.Native.Nat.{ℕ, _+_, _<_, _≤_, max}
 use mathlib.Core.Path.{_≡_, refl, sym, ap, _∙_}
-use mathlib.Core.Bool.{Bool, true, false≢true}
-use mathlib.Core.List.{List}
+use mathlib.Core.Bool.{Bool, true, false, cond, false≢true}
+use mathlib.Core.List.{List, [], _∷_, _++_}
 use native.Mathlib.Omega.{arith}
 use native.Mathlib.Decide.{ℕ-discrete}
 use borrow.Author.Tests.{eqb-true, le-leb, lt-leb}
+use lib.Dec.{leb}
 use lib.ListN.{length, getD, set, length-set}
 use lib.Seq.{getD-set-same, getD-set-other}
 use Rattle.lists.specs.First.{firstFrom}
@@ -15,7 +16,7 @@ use Rattle.ring.specs.Ring.{cellsOfAPlace}
 use Rattle.places.specs.Place.{readPlace, placeAt, isStream, isFree, findOf, freeOf}
 use Rattle.places.specs.declared.Holding.{Holding}
 use Rattle.place_window.specs.Window.{cellAt}
-use Rattle.streams.specs.Model.{Place, free, stream, modelAfter, names, isVacant, highestIn, at, findIn, vacantIn, addedAt, notedAt, laterAt}
+use Rattle.streams.specs.Model.{Place, free, stream, modelAfter, names, isVacant, highestIn, entriesIn, at, findIn, vacantIn, addedAt, notedAt, laterAt}
 use Rattle.streams.specs.Reading.{Store, Meaning, ReadsAt, Reads}
 use Rattle.streams.proofs.Numbers.{too-old, not-too-old}
 use Rattle.lists.specs.declared.Found.the-variants.{At}
@@ -32,6 +33,9 @@ module _ {E : Type 0} where
   vacant-is (stream x top es) t = absurd (false≢true t)
 
 -- ---- the machine at a held place
+untaken : {A : Type 0} (b : Bool) (x y : A) → b ≡ false → cond b x y ≡ y
+untaken b x y e = rw e
+
 module _ {E : Type 0} (entry : ℕ → E) (ps : List (Place E)) (k ssrc full : ℕ) where
   module _ {A : Type 0} (accepted : A) (refused : Refusal → A) where
     pub later-old : full + cellsOfAPlace ≤ highestIn (at ps k) → laterAt accepted refused entry ps k ssrc full ≡ modelAfter (refused TooOld) ps
@@ -43,17 +47,22 @@ module _ {E : Type 0} (entry : ℕ → E) (ps : List (Place E)) (k ssrc full : �
     unfolding laterAt
     later-in l = rw (not-too-old (highestIn (at ps k)) full l)
 
+  -- the stream with one more entry, by what the place holds and by the highest full number then
+  pub added-to : (P : Place E) (top : ℕ) → at ps k ≡ P → max (highestIn P) full ≡ top
+      → addedAt entry ps k ssrc full ≡ set ps k (stream ssrc top (entriesIn P ++ (entry full ∷ [])))
+  added-to P top e h = rw e (ap (λ (x : ℕ). set ps k (stream ssrc x (entriesIn P ++ (entry full ∷ [])))) h)
+
   pub noted-ahead : highestIn (at ps k) < full → notedAt entry ps k ssrc full ≡ ps
   unfolding notedAt
-  noted-ahead l = rw (lt-leb full (highestIn (at ps k)) l)
+  noted-ahead l = untaken (leb full (highestIn (at ps k))) _ ps (lt-leb full (highestIn (at ps k)) l)
 
   pub noted-old : full + cellsOfAPlace ≤ highestIn (at ps k) → notedAt entry ps k ssrc full ≡ ps
   unfolding notedAt
-  noted-old l = rw (le-leb full (highestIn (at ps k)) (omega arith), too-old (highestIn (at ps k)) full l)
+  noted-old l = simp (le-leb full (highestIn (at ps k)) (omega arith), too-old (highestIn (at ps k)) full l) refl
 
   pub noted-in : full ≤ highestIn (at ps k) → highestIn (at ps k) < full + cellsOfAPlace → notedAt entry ps k ssrc full ≡ addedAt entry ps k ssrc full
   unfolding notedAt
-  noted-in h l = rw (le-leb full (highestIn (at ps k)) h, not-too-old (highestIn (at ps k)) full l)
+  noted-in h l = simp (le-leb full (highestIn (at ps k)) h, not-too-old (highestIn (at ps k)) full l) refl
 
 -- ---- a store that reads as the machine says
 module _ {E C : Type 0} (M : Meaning E C) where
