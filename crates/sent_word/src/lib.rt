@@ -120,9 +120,9 @@ pub fn word_reported(word: u64, metric: u16, rts: u32) -> u64
     } else {
         received
     };
-    if kind == NOT_REGISTERED {
-        word
-    } else {
+    if NOT_REGISTERED < kind {
         reported
+    } else {
+        word
     }
 }

@@ -1,11 +1,12 @@
 -- `sent_status::status_at` meets its contract. Assumes nothing.
+use native.Mathlib.Omega.{arith}
 use Rattle.sent_status.proofs.Calls.{status-outside, status-within}
 use borrow.Author.Needs.{needs}
 use Rattle.sent_status.proofs.status_at.Statement.{statement}
 use Rattle.sent_status.proofs.status_at.Tie as tie
 
 returns : tie.Need-returns
-returns c = status-outside _ _ _ _ (c .if1 .taken)
+returns c = status-outside _ _ _ _ (omega (arith, c .if1 .taken))
 
 returns-2 : tie.Need-returns-2
 returns-2 c =
