@@ -1,4 +1,4 @@
--- A report changes the cell of its own number alone, and the cells keep their number. Assumes nothing.
+-- A report changes the cell of its own number alone, and there are as many cells as before. Assumes nothing.
 use Prim.Native.Nat.{ℕ, _≤_, _<_}
 use mathlib.Core.Path.{_≡_, refl, ap, _∙_}
 use mathlib.Core.List.{List, [], _∷_, _++_}
@@ -50,7 +50,7 @@ module _ (p highest rts : ℕ) (cells : List ℕ) (number metric : ℕ) where
       → (m ≡ number → ⊥) → cellIndex p m ≡ cellIndex p number → ⊥
   apart m h l k a b n e = n (omega arith)
 
-  -- so a report leaves what the window says of every other number
+  -- so what the window says of every other number stays
   pub reportedAt-number : (m : ℕ) → highest < sequenceNumbers → number < sequenceNumbers → m < sequenceNumbers
       → distanceOf highest m < cellsOfAPlace → (m ≡ number → ⊥)
       → cellAt (reportedAt p highest rts cells number metric) p m ≡ cellAt cells p m
@@ -87,7 +87,7 @@ module _ (places : List ℕ) (rts : ℕ) where
         by-place (At p) e = reportedAt-other p (highestAt places p) rts cells (r .number) (r .metric) i (n p e)
         by-place Nothing e = refl
 
-    -- the same of a number of the window, that of the stream's place
+    -- in numbers: what the window of the report's stream says of any other number stays
     pub reported-number : (p m : ℕ) → findOf places (r .ssrc) ≡ At p → r .number < sequenceNumbers → m < sequenceNumbers
         → distanceOf (highestAt places p) m < cellsOfAPlace → (m ≡ r .number → ⊥)
         → cellAt (reported places rts cells r) p m ≡ cellAt cells p m

@@ -38,7 +38,7 @@ module _ (s : List ℕ) (sender rts blocks : ℕ) (e : readOf (decodePacket s) �
       → after ≡ blocksTaken places rts s cells (walkFrom s packetHeaderOctets)
       → cellsAfter Taken after ≡ takenIn places cells s
   unfolding decodePacket
-  taken-accepted places cells after sh f = accepted-walk (λ bs w r. rw (sh, w, f, walked-sound s bs w .1, r))
+  taken-accepted places cells after sh f = accepted-walk (λ bs w r. rw (w, sh, f, walked-sound s bs w .1, r))
 
 module _ (places cells s : List ℕ) where
   pub taken-misshapen : shaped places cells ≡ false → cellsAfter (Refused BadStore) cells ≡ takenIn places cells s

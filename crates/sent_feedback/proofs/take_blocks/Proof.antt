@@ -1,5 +1,5 @@
--- `sent_feedback::take_blocks` meets its contract. The invariant: the blocks from here make of the cells what all of them
--- make of the cells at the start. Assumes nothing.
+-- `sent_feedback::take_blocks` meets its contract. The invariant: the blocks from here make of the cells what
+-- all of them make of the cells at the start. Assumes nothing.
 use Prim.Native.Nat.{_-_}
 use mathlib.Core.Path.{_≡_, refl, sym, _∙_}
 use native.Mathlib.Omega.{arith}
