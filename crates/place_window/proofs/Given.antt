@@ -42,7 +42,7 @@ moved-by high number =
     behind n =
         elim (decLt (distanceOf high number) cellsOfAPlace) [
           | yes b ↦ within (move-within high number n b) (λ o. let g = o .below in omega arith)
-          | no b ↦ old (move-old high number n (omega arith)) (record { notAhead = n; below = omega arith })
+          | no b ↦ old (move-old high number n (omega arith)) (record { notAhead = λ l. let g = n l in omega arith; below = omega arith })
         ]
 
 -- ---- admitted or refused, over what becomes of the number's own word
