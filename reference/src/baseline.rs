@@ -5,5 +5,6 @@ pub mod ccfbline;
 pub mod datagram;
 pub mod metric;
 pub mod packet;
+pub mod sent;
 pub mod store;
 pub mod writer;

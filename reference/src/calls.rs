@@ -3,6 +3,7 @@
 pub mod datagram;
 pub mod metric;
 pub mod packet;
+pub mod sent;
 pub mod store;
 pub mod writer;
 

@@ -3,17 +3,21 @@
 mod ccfbline;
 mod datagram;
 mod datagrams;
+mod feedback;
 mod lent_words;
 mod metric;
 mod packet;
 mod packets;
 mod pair;
 mod requests;
+mod sent;
+mod sent_pair;
 mod store;
 mod writer;
 
 use crate::calls::metric::MetricCalls;
 use crate::calls::packet::PacketCalls;
+use crate::calls::sent::SentCalls;
 use crate::calls::store::StoreCalls;
 use crate::calls::writer::WriterCalls;
 use crate::refusal::Refusal;
@@ -115,7 +119,8 @@ fn numbered<T>(answer: Result<T, Refusal>) -> Result<T, u8> {
 }
 
 /// The names of the subjects, in order.
-pub const SUBJECTS: [&str; 6] = ["metric", "store", "packet", "writer", "datagram", "ccfbline"];
+pub const SUBJECTS: [&str; 7] =
+    ["metric", "store", "packet", "writer", "datagram", "sent", "ccfbline"];
 
 /// Runs a subject: the line to print, a mismatch, or `None` if this build cannot reach it.
 pub fn run(name: &str, with: With) -> Option<Result<String, Mismatch>> {
@@ -133,6 +138,7 @@ pub fn run(name: &str, with: With) -> Option<Result<String, Mismatch>> {
         "writer" => {
             writer::run(&with.of(WriterCalls::product(), baseline::writer::BASELINE)?, tally)
         }
+        "sent" => sent::run(&with.of(SentCalls::product(), baseline::sent::BASELINE)?, tally),
         "datagram" => datagram::run(&datagram::Calls::of(with)?, tally),
         _ => {
             let product = cfg!(feature = "ccfbline").then(program::product);

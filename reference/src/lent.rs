@@ -33,9 +33,15 @@ pub fn read(places: &[u64], cells: &[u64]) -> Result<Store, Refusal> {
     Store::new(places.iter().zip(of_places).map(|(word, cells)| stream(*word, cells)).collect())
 }
 
-fn stream(word: u64, cells: &[u64]) -> Option<Stream> {
+/// The SSRC and H of a held place.
+pub fn held(word: u64) -> Option<(u32, u16)> {
     let fields = word.checked_sub(HELD).filter(|fields| *fields < HELD)?;
-    let highest = (fields % SSRC_UNIT) as i64;
+    Some(((fields / SSRC_UNIT) as u32, (fields % SSRC_UNIT) as u16))
+}
+
+fn stream(word: u64, cells: &[u64]) -> Option<Stream> {
+    let (ssrc, highest) = held(word)?;
+    let highest = i64::from(highest);
     let accepted = WINDOW
         .filter_map(|back| {
             let full = highest - back;
@@ -43,7 +49,7 @@ fn stream(word: u64, cells: &[u64]) -> Option<Stream> {
             arrived(cell).map(|arrived| Accepted { full, arrived })
         })
         .collect();
-    Some(Stream { ssrc: (fields / SSRC_UNIT) as u32, highest, accepted })
+    Some(Stream { ssrc, highest, accepted })
 }
 
 fn arrived(cell: u64) -> Option<Arrived> {

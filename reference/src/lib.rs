@@ -20,5 +20,7 @@ pub mod packet;
 pub mod program;
 pub mod refusal;
 pub mod rng;
+pub mod sent;
+pub mod sent_words;
 pub mod store;
 pub mod writer;

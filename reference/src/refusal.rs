@@ -29,6 +29,7 @@ pub enum Refusal {
     NoNumber = 30,
     BadDatagram = 31,
     NoPacket = 32,
+    NotRegistered = 37,
 }
 
 impl Refusal {

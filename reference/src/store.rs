@@ -57,22 +57,22 @@ pub fn wrapped(full: i64) -> u16 {
     full.rem_euclid(NUMBER_ROUND) as u16
 }
 
-impl Stream {
-    /// The full number that `number` stands for in an arrival, found among all that wrap to it,
-    /// and how it moves the window; `None` if too old.
-    fn full_of(&self, number: u16) -> Option<(i64, Move)> {
-        let round = self.highest.div_euclid(NUMBER_ROUND) * NUMBER_ROUND;
-        let candidates =
-            [-NUMBER_ROUND, 0, NUMBER_ROUND].map(|rounds| round + rounds + i64::from(number));
-        let is_ahead = |full: &&i64| (1..=FARTHEST_AHEAD).contains(&(*full - self.highest));
-        let is_within = |full: &&i64| WINDOW.contains(&(self.highest - *full));
-        match (candidates.iter().find(is_ahead), candidates.iter().find(is_within)) {
-            (Some(full), _) => Some((*full, Move::Ahead)),
-            (None, Some(full)) => Some((*full, Move::Within)),
-            (None, None) => None,
-        }
+/// The full number that `number` stands for if `highest` is that of H, found among all that wrap to
+/// it, and how it moves the window; `None` if too old.
+pub fn full_of(highest: i64, number: u16) -> Option<(i64, Move)> {
+    let round = highest.div_euclid(NUMBER_ROUND) * NUMBER_ROUND;
+    let candidates =
+        [-NUMBER_ROUND, 0, NUMBER_ROUND].map(|rounds| round + rounds + i64::from(number));
+    let is_ahead = |full: &&i64| (1..=FARTHEST_AHEAD).contains(&(*full - highest));
+    let is_within = |full: &&i64| WINDOW.contains(&(highest - *full));
+    match (candidates.iter().find(is_ahead), candidates.iter().find(is_within)) {
+        (Some(full), _) => Some((*full, Move::Ahead)),
+        (None, Some(full)) => Some((*full, Move::Within)),
+        (None, None) => None,
     }
+}
 
+impl Stream {
     /// The lowest full number of the window that an accepted arrival had; that of H if none had
     /// one.
     pub fn oldest(&self) -> i64 {
@@ -130,7 +130,7 @@ impl Store {
         let Some(stream) = held else {
             return self.start(ssrc, number, arrived);
         };
-        let (full, moved) = stream.full_of(number).ok_or(Refusal::TooOld)?;
+        let (full, moved) = full_of(stream.highest, number).ok_or(Refusal::TooOld)?;
         stream.highest = stream.highest.max(full);
         stream.accepted.push(Accepted { full, arrived });
         Ok(moved)

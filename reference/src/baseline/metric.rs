@@ -9,7 +9,7 @@ pub const BASELINE: MetricCalls = MetricCalls { encode, decode };
 pub const CE: u8 = 3;
 
 /// R, the highest bit of a metric; the mark follows in two bits, the offset in 13.
-const R: u16 = 0x8000;
+pub(super) const R: u16 = 0x8000;
 const OFFSET_BITS: u32 = 13;
 const OFFSET_MASK: u16 = 0x1FFF;
 const MARK_MASK: u8 = 3;

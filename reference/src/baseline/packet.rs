@@ -30,7 +30,7 @@ const SENDER_AT: usize = 4;
 pub const HEADER_OCTETS: usize = 8;
 
 /// Where in a block its fields are, and the length of a block's header.
-const BEGIN_AT: usize = 4;
+pub(super) const BEGIN_AT: usize = 4;
 const COUNT_AT: usize = 6;
 pub const BLOCK_HEADER_OCTETS: usize = 8;
 
@@ -42,15 +42,15 @@ const NO_BLOCK: u8 = Refusal::NoBlock.number();
 
 /// A block found by the walk.
 #[derive(Clone, Copy)]
-struct Found {
+pub(super) struct Found {
     /// Where its header starts.
-    at: usize,
-    count: usize,
+    pub at: usize,
+    pub count: usize,
 }
 
 impl Found {
     #[inline]
-    fn metrics_at(&self) -> usize {
+    pub fn metrics_at(&self) -> usize {
         self.at + BLOCK_HEADER_OCTETS
     }
 }
@@ -61,7 +61,7 @@ pub(super) fn be16(octets: &[u8], at: usize) -> u16 {
 }
 
 #[inline]
-fn be32(octets: &[u8], at: usize) -> u32 {
+pub(super) fn be32(octets: &[u8], at: usize) -> u32 {
     u32::from_be_bytes([octets[at], octets[at + 1], octets[at + 2], octets[at + 3]])
 }
 
@@ -107,7 +107,7 @@ fn block_at(packet: &[u8], end: usize, at: usize) -> Result<(Found, usize), u8> 
 
 /// Walks over all blocks and calls `visit` with each.
 #[inline]
-fn walk(packet: &[u8], mut visit: impl FnMut(Found)) -> u8 {
+pub(super) fn walk(packet: &[u8], mut visit: impl FnMut(Found)) -> u8 {
     let refused = header(packet);
     if refused != 0 {
         return refused;

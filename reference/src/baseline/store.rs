@@ -60,7 +60,7 @@ pub fn filled_word(mark: u8, time_known: bool, time: u32) -> u64 {
 
 /// The cells of place `k`, a ring.
 #[inline]
-fn ring_of(cells: &mut [u64], k: usize) -> &mut [u64] {
+pub fn ring_of(cells: &mut [u64], k: usize) -> &mut [u64] {
     let start = CELLS_OF_A_PLACE * k;
     &mut cells[start..start + CELLS_OF_A_PLACE]
 }
@@ -102,15 +102,30 @@ unsafe extern "C" fn arrive(
     let places = slice::from_raw_parts_mut(places, places_len);
     let cells = slice::from_raw_parts_mut(cells, cells_len);
     let filled = filled_word(mark, time_known, time);
-    let Some(k) = find(places, ssrc) else {
-        return start(places, cells, ssrc, number, filled);
-    };
-    resume(&mut places[k], ring_of(cells, k), ssrc, number, filled)
+    admit(places, cells, ssrc, number, filled, |cell| {
+        if *cell & FILLED == 0 {
+            *cell = filled;
+        } else if mark == CE {
+            *cell |= u64::from(CE);
+        }
+    })
 }
 
-/// An arrival of a stream that is held.
-#[inline]
-fn resume(place: &mut u64, ring: &mut [u64], ssrc: u32, number: u16, filled: u64) -> u8 {
+/// Admits a number of a stream: `first` becomes the word of a number that the window did not have,
+/// `again` changes that of one that it had.
+#[inline(always)]
+pub fn admit(
+    places: &mut [u64],
+    cells: &mut [u64],
+    ssrc: u32,
+    number: u16,
+    first: u64,
+    again: impl FnOnce(&mut u64),
+) -> u8 {
+    let Some(k) = find(places, ssrc) else {
+        return start(places, cells, ssrc, number, first);
+    };
+    let (place, ring) = (&mut places[k], ring_of(cells, k));
     let highest = *place as u16;
     let ahead = number.wrapping_sub(highest);
     let behind = usize::from(highest.wrapping_sub(number));
@@ -120,24 +135,22 @@ fn resume(place: &mut u64, ring: &mut [u64], ssrc: u32, number: u16, filled: u64
             empty_after(ring, highest, ahead - 1);
         }
         *place = place_word(ssrc, number);
-        ring[cell] = filled;
+        ring[cell] = first;
     } else if behind >= CELLS_OF_A_PLACE {
         return Refusal::TooOld.number();
-    } else if ring[cell] & FILLED == 0 {
-        ring[cell] = filled;
-    } else if filled & MARK_MASK == u64::from(CE) {
-        ring[cell] |= u64::from(CE);
+    } else {
+        again(&mut ring[cell]);
     }
     0
 }
 
-fn start(places: &mut [u64], cells: &mut [u64], ssrc: u32, number: u16, filled: u64) -> u8 {
+fn start(places: &mut [u64], cells: &mut [u64], ssrc: u32, number: u16, first: u64) -> u8 {
     let Some(k) = places.iter().position(|word| !is_held(*word)) else {
         return Refusal::NoFreePlace.number();
     };
     let ring = ring_of(cells, k);
     ring.fill(0);
-    ring[usize::from(number) % CELLS_OF_A_PLACE] = filled;
+    ring[usize::from(number) % CELLS_OF_A_PLACE] = first;
     places[k] = place_word(ssrc, number);
     0
 }

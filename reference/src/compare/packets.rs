@@ -7,7 +7,7 @@ use crate::packet::{
 use crate::rng::Rng;
 
 /// A metric of any kind, often one at an edge.
-fn random_metric(rng: &mut Rng) -> u16 {
+pub fn random_metric(rng: &mut Rng) -> u16 {
     match rng.below(3) {
         0 => rng.pick(&[0, 1, 0x7FFF, 0x8000, 0x9FFD, 0xBFFD, 0xFFFE, 0xFFFF]),
         1 => rng.u16() % 0x8000,

@@ -86,7 +86,8 @@ fn wrong_shape(calls: &StoreCalls, tally: &mut Tally, words: Words) -> Result<()
 /// Distances from H that matter, forwards and backwards.
 const JUMPS: [i64; 10] = [0, 1, 2, 2_047, 2_048, 2_049, 32_767, 32_768, 4_096, 30_000];
 
-fn next_number(rng: &mut Rng, highest: i64) -> u16 {
+/// A number at one of these distances, or near H.
+pub(super) fn next_number(rng: &mut Rng, highest: i64) -> u16 {
     let step = match rng.below(16) {
         0..=5 => 1,
         6 | 7 => -(rng.below(8) as i64),
