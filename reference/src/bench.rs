@@ -4,6 +4,7 @@ mod ccfbline;
 mod datagram;
 mod metric;
 mod packet;
+mod sent;
 mod store;
 mod writer;
 
@@ -28,6 +29,7 @@ pub fn rows() -> Vec<Row> {
     rows.extend(packet::rows());
     rows.extend(writer::rows());
     rows.extend(datagram::rows());
+    rows.extend(sent::rows());
     rows.extend(ccfbline::rows());
     rows
 }

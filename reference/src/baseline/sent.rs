@@ -20,6 +20,8 @@ const RECEIVED: u64 = 3;
 const METRIC_SHIFT: u32 = 16;
 const RTS_SHIFT: u32 = 32;
 
+const R_SHIFT: u32 = 15;
+
 /// How many times an offset counts, as a shift.
 const OFFSET_SHIFT: u32 = 6;
 
@@ -110,13 +112,13 @@ fn enter(cells: &mut [u64], metrics: &[u8], received: u64) {
 
 #[inline]
 fn reported(word: u64, metric: u16, received: u64) -> u64 {
-    let missing = if word & KNOWN_MASK == NOT_REPORTED { MISSING } else { word };
-    let new = if metric >= R { received | u64::from(metric) << METRIC_SHIFT } else { missing };
-    if word & KNOWN_MASK == NOT_REGISTERED {
-        word
-    } else {
-        new
-    }
+    // NOT_REPORTED is the only one of the four with the lower bit alone; one more is MISSING.
+    let missing = word + (word & !(word >> 1) & 1);
+    let is_registered = (word | word >> 1) & 1;
+    let taken = (is_registered & u64::from(metric >> R_SHIFT)).wrapping_neg();
+    let received = received | u64::from(metric) << METRIC_SHIFT;
+    // One of the two by a mask: a choice by `if` takes twice as many vector instructions.
+    missing ^ (missing ^ received) & taken
 }
 
 #[inline(never)]

@@ -28,10 +28,9 @@ pub fn rows() -> Vec<Row> {
     SHAPES.into_iter().flat_map(shape_rows).collect()
 }
 
-fn shape_rows((blocks, count): (u32, u16)) -> [Row; 4] {
+/// The packet of a shape: streams 0, 1 and so on with random numbers and metrics.
+pub fn packet_of((blocks, count): (u32, u16)) -> Packet {
     let mut rng = Rng::of_case(USUAL_SEED, u64::from(blocks));
-    let steps = TIMES * blocks as usize * usize::from(count);
-    let shape = format!("{blocks} of {count}");
     let blocks = (0..blocks)
         .map(|ssrc| Block {
             ssrc,
@@ -39,7 +38,13 @@ fn shape_rows((blocks, count): (u32, u16)) -> [Row; 4] {
             metrics: (0..count).map(|_| rng.u16() | rng.pick(&[0, 0x8000])).collect(),
         })
         .collect();
-    let packet = Packet { sender: 1, rts: 2, blocks }.octets();
+    Packet { sender: 1, rts: 2, blocks }
+}
+
+fn shape_rows((blocks, count): (u32, u16)) -> [Row; 4] {
+    let steps = TIMES * blocks as usize * usize::from(count);
+    let shape = format!("{blocks} of {count}");
+    let packet = packet_of((blocks, count)).octets();
     let calls = (PacketCalls::product(), BASELINE);
     let fresh = |_| Outputs {
         packet: vec![0; packet.len()],
