@@ -117,7 +117,7 @@ fn reported(word: u64, metric: u16, received: u64) -> u64 {
     let is_registered = (word | word >> 1) & 1;
     let taken = (is_registered & u64::from(metric >> R_SHIFT)).wrapping_neg();
     let received = received | u64::from(metric) << METRIC_SHIFT;
-    // One of the two by a mask: a choice by `if` takes twice as many vector instructions.
+    // One of the two by a mask: in this loop that is faster than `if`.
     missing ^ (missing ^ received) & taken
 }
 
