@@ -37,6 +37,20 @@ static void null_store(void)
           "write from no store");
 }
 
+/* A sender's store of no places, and a packet of no octets. */
+static void null_sent(void)
+{
+    static uint64_t places[1], cells[CCFB_CELLS(1)];
+    uint8_t kind = BEFORE, mark = BEFORE;
+    uint32_t time = BEFORE;
+    check(ccfb_register(NULL, 0, NULL, 0, FIRST, 1) == CCFB_BAD_STORE, "register");
+    check(ccfb_take_in(NULL, 0, NULL, 0, NULL, 0) == CCFB_BAD_STORE, "take in");
+    check(ccfb_status(NULL, 0, NULL, 0, FIRST, 1, &kind, &mark, &time) == CCFB_BAD_STORE, "status");
+    check(ccfb_take_in(places, 1, cells, CCFB_CELLS(1), NULL, 0) == CCFB_PACKET_TOO_SHORT,
+          "take in no octets");
+    check(kind == BEFORE && mark == BEFORE && time == BEFORE, "a refused status");
+}
+
 static void null_output(void)
 {
     static uint64_t places[1], cells[CCFB_CELLS(1)];
@@ -150,8 +164,12 @@ static void texts(void)
     check(strcmp(ccfb_refusal_text(CCFB_NO_BLOCK), "no such report block") == 0, "text of 29");
     check(strcmp(ccfb_refusal_text(CCFB_NO_PACKET), "no such packet in the datagram") == 0,
           "text of 32");
+    check(strcmp(ccfb_refusal_text(CCFB_NOT_REGISTERED),
+                 "number not registered as sent, or not in the window") == 0,
+          "text of 37");
     for (unsigned refused = 1; refused < 256; refused++) {
-        bool known = refused <= 14 || (21 <= refused && refused <= 32);
+        bool known =
+            refused <= 14 || (21 <= refused && refused <= 32) || refused == CCFB_NOT_REGISTERED;
         bool said = strcmp(ccfb_refusal_text((uint8_t)refused), "unknown refusal") != 0;
         check(known == said, "which numbers have a text");
     }
@@ -198,6 +216,7 @@ static void room(void)
 int main(void)
 {
     null_store();
+    null_sent();
     null_output();
     null_packet();
     null_datagram();

@@ -1,6 +1,7 @@
 //! A second CCFB (RFC 8888) program, naive and written from the rules alone, to compare the
-//! product with: it keeps every accepted arrival under its full number, handles fields as strings
-//! of bits and words, and finds the fewest packets by search.
+//! product with: it keeps every accepted arrival, and every sent number with all that was reported
+//! of it, under its full number, handles fields as strings of bits and words, and finds the fewest
+//! packets by search.
 //!
 //! `compare` compares it with libccfb.a, and `baseline` is plain fast Rust on the product's own
 //! layout, which `bench` measures the product against.

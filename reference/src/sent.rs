@@ -1,6 +1,5 @@
-//! What a sender knows of its packets: for each stream every number that it registered, under its
-//! full number, with all that feedback has said of it since, in order. Every answer is read from
-//! that list.
+//! A sender's store: for each stream every number that was registered, under its full number, with
+//! all that feedback has said of it since, in order. Every answer is read from that list.
 
 use crate::metric::{decode, Metric};
 use crate::packet::parse;

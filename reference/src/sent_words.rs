@@ -1,6 +1,6 @@
-//! How the product's record of sent packets reads, whatever its words are.
+//! How the product's store of a sender reads, whatever its words are.
 //!
-//! Places and cells lie as those of its store do (see `lent`). A cell's word stores what is known
+//! Places and cells lie as those of the store of arrivals do (see `lent`). A cell's word stores what is known
 //! of its number:
 //!
 //!     word % 4             0 not registered, 1 not reported yet, 2 missing, 3 received
@@ -19,7 +19,7 @@ const METRICS_WITHOUT_R: u64 = 1 << 15;
 const METRIC_UNIT: u64 = 1 << 16;
 const RTS_UNIT: u64 = 1 << 32;
 
-/// The record in which the numbers of each held place's window are registered as their cells say,
+/// The store in which the numbers of each held place's window are registered as their cells say,
 /// with one report each at most.
 pub fn read(places: &[u64], cells: &[u64]) -> Result<Sent, Refusal> {
     if cells.len() != CELLS_OF_A_PLACE * places.len() {

@@ -1,4 +1,4 @@
-//! Sent packets; a step is a registration, a metric, or a question for a number.
+//! A sender's store; a step is a registration, a metric, or a question for a number.
 
 use super::packet::packet_of;
 use super::{row, Row};
@@ -49,7 +49,7 @@ fn registrations(name: &str, places: usize, numbers: &[Number]) -> Row {
     )
 }
 
-/// A record in which each number of a window about each block of the packet is registered.
+/// A store in which each number of a window about each block of the packet is registered.
 fn registered(calls: SentCalls, packet: &Packet) -> Words {
     let mut words = Words::fresh(packet.blocks.len());
     for Block { ssrc, begin, metrics } in &packet.blocks {

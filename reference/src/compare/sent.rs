@@ -1,4 +1,4 @@
-//! Sent packets: the edges of the window, every metric over every status, random runs of
+//! A sender's store: the edges of the window, every metric over every status, random runs of
 //! registrations and feedback, any content, wrong shapes.
 
 use super::feedback::{Feedback, Reported};
@@ -36,7 +36,7 @@ fn packet(rts: u32, begin: u16, metrics: Vec<u16>) -> Call {
     Call::TakeIn(Packet { sender: 1, rts, blocks }.octets())
 }
 
-/// A record of one place, whose stream 7 has sent every number of its window.
+/// A store of one place, whose stream 7 has sent every number of its window.
 fn whole_window<'a>(
     calls: &'a SentCalls,
     tally: &mut Tally,
@@ -187,7 +187,7 @@ fn random_run(
     Ok(())
 }
 
-/// A few calls on a record of random content.
+/// A few calls on a store of random content.
 fn lent_run(calls: &SentCalls, tally: &mut Tally) -> Result<(), Mismatch> {
     let mut rng = Rng::of_case(tally.seed, tally.case);
     let places = 1 + rng.below(MOST_PLACES as u64) as usize;

@@ -1,4 +1,4 @@
-//! A record of sent packets of ours and one of the reference, given the same calls.
+//! A sender's store of ours and one of the reference, given the same calls.
 
 use super::{numbered, Hex, Mismatch, Tally};
 use crate::calls::sent::SentCalls;
@@ -10,7 +10,7 @@ use crate::sent_words;
 use crate::store::{wrapped, CELLS_OF_A_PLACE};
 use std::fmt::{self, Debug, Formatter};
 
-/// A call that can change the record.
+/// A call that can change the store.
 pub enum Call {
     Register { ssrc: u32, number: u16 },
     TakeIn(Vec<u8>),
@@ -42,7 +42,7 @@ impl<'a> Pair<'a> {
         Pair::lent(calls, Words::fresh(places))
     }
 
-    /// A record of 1 to 16 places with any content.
+    /// A store of 1 to 16 places with any content.
     pub fn lent(calls: &'a SentCalls, words: Words) -> Pair<'a> {
         let model = sent_words::read(&words.places, &words.cells).expect("1 to 16 places");
         Pair { calls, words, model }
