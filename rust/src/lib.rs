@@ -3,12 +3,21 @@
 //!
 //! - A receiver records what arrives in a [`Store`]. For each report a [`Reporter`] makes the
 //!   requests, and the store [writes](StoreOver::write) the packets.
-//! - A sender reads each received [`Datagram`], and the feedback in it as [`Packet`]s.
+//! - A sender registers what it sends in [`SentPackets`], takes in the feedback of each received
+//!   [`Datagram`], and asks what became of a packet. To see what a single report says, it reads the
+//!   feedback as [`Packet`]s.
 //!
 //! ```
-//! use ccfb::{Datagram, Mark, Metric, Refusal, Report, Reporter, Store, Time};
+//! use ccfb::{Datagram, Mark, Refusal, Report, Reporter, RtcpPacket};
+//! use ccfb::{SentPackets, Status, Store, Time};
 //!
 //! # fn main() -> Result<(), Refusal> {
+//! // The sender registers each packet that it sends.
+//! let mut sent = SentPackets::<4>::new();
+//! for number in [65534, 65535, 0, 1] {
+//!     sent.register(0x0a01, number)?;
+//! }
+//!
 //! // The receiver: 65535 is lost. A real one takes its times from the clock, see `ntp_time`.
 //! let mut store = Store::<4>::new();
 //! store.arrive(0x0a01, 65534, Mark::Ect0, Time::At(0x0004_8000))?;
@@ -20,22 +29,21 @@
 //! let report = Report { own: 0xf1, rts: 0x0005_0000, limit: 1_200 };
 //! let mut out = vec![0; requests.room()];
 //! let mut packets = store.write(report, &requests, &mut out)?;
-//! let sent = packets.next().expect("a packet");
+//! let datagram = packets.next().expect("a packet");
 //! reporter.reported(&requests);
 //!
-//! // The sender. The first report starts at the first arrival.
-//! let mut metrics = Vec::new();
-//! for packet in Datagram::read(sent)?.feedback().flatten() {
-//!     for block in packet.blocks().filter(|block| block.ssrc() == 0x0a01) {
-//!         metrics.extend(block.metrics());
-//!     }
+//! // The sender takes in what comes, and asks. The first report starts at the first arrival.
+//! for packet in Datagram::read(datagram)?.packets().filter(RtcpPacket::is_ccfb) {
+//!     sent.take_in(packet.octets())?;
 //! }
+//! let became = [65534, 65535, 0, 1].map(|number| sent.status(0x0a01, number));
 //! assert_eq!(
-//!     metrics,
+//!     became,
 //!     [
-//!         (65534, Metric::Received { mark: Mark::Ect0, offset: 512 }),
-//!         (65535, Metric::NotReceived),
-//!         (0, Metric::Received { mark: Mark::Ce, offset: 0 }),
+//!         Ok(Status::Received { mark: Mark::Ect0, time: 0x0004_8000 }),
+//!         Ok(Status::Missing),
+//!         Ok(Status::Received { mark: Mark::Ce, time: 0x0005_0000 }),
+//!         Ok(Status::NotReported),
 //!     ]
 //! );
 //! # Ok(())
@@ -52,17 +60,18 @@
 //!
 //! # What may be trusted
 //!
-//! What is recorded, written and read is decided by the library, whose behaviour is proved. Which
-//! numbers to report, the conversion of times and [`RtcpPacket::is_ccfb`] are decided by this
-//! crate, and tested. Refusals of what the types here rule out (a mark above 3, an owned store of
-//! another shape) cannot happen, and no answer of the library makes the crate panic.
+//! What is recorded, written and read, and what is known of sent packets, is decided by the
+//! library, whose behaviour is proved. Which numbers to report, the conversion of times and
+//! [`RtcpPacket::is_ccfb`] are decided by this crate, and tested. Refusals of what the types here
+//! rule out (a mark above 3, an owned store of another shape) cannot happen, and no answer of the
+//! library makes the crate panic.
 //!
 //! # Features
 //!
 //! - `std` (default): times from [`SystemTime`](std::time::SystemTime). Implies `alloc`.
-//! - `alloc`: [`Store`], which owns its memory.
+//! - `alloc`: [`Store`] and [`SentPackets`], which own their memory.
 //!
-//! Without them the crate is `no_std` and allocates nothing: use [`StoreIn`].
+//! Without them the crate is `no_std` and allocates nothing: use [`StoreIn`] and [`SentPacketsIn`].
 //!
 //! # Linking
 //!
@@ -90,6 +99,8 @@ mod raw;
 mod refusal;
 mod reporter;
 mod requests;
+mod sent;
+mod status;
 mod store;
 mod stream;
 mod time;
@@ -105,6 +116,10 @@ pub use packet::{rewrite, Block, Blocks, Metrics, Packet};
 pub use refusal::Refusal;
 pub use reporter::Reporter;
 pub use requests::{Request, Requests};
+#[cfg(feature = "alloc")]
+pub use sent::SentPackets;
+pub use sent::{SentPacketsIn, SentPacketsOver};
+pub use status::Status;
 #[cfg(feature = "alloc")]
 pub use store::Store;
 pub use store::{StoreIn, StoreOver};

@@ -1,4 +1,4 @@
-//! The memory of a store.
+//! The memory of a store, or of sent packets.
 
 #[cfg(feature = "alloc")]
 use alloc::{boxed::Box, vec};
@@ -6,26 +6,27 @@ use alloc::{boxed::Box, vec};
 #[cfg(feature = "alloc")]
 use crate::{CELLS_OF_A_PLACE, MOST_PLACES};
 
-/// The two arrays of a store.
+/// The two arrays of a store, or of sent packets.
 #[derive(Clone, Copy)]
 pub struct Words<'s> {
     pub places: &'s [u64],
     pub cells: &'s [u64],
 }
 
-/// The two arrays of a store, to change them.
+/// The two arrays, to change them.
 pub struct WordsMut<'s> {
     pub places: &'s mut [u64],
     pub cells: &'s mut [u64],
 }
 
-/// What has the two arrays of a store. They are of the lengths that the library asks for.
+/// What has the two arrays. They are of the lengths that the library asks for.
 pub trait HasWords {
     fn words(&self) -> Words<'_>;
     fn words_mut(&mut self) -> WordsMut<'_>;
 }
 
-/// The memory of a store: `Owned` or [`Borrowed`]. Only this crate implements it.
+/// The memory of a store, or of sent packets: `Owned` or [`Borrowed`]. Only this crate implements
+/// it.
 pub trait Memory: HasWords {}
 
 /// Memory on the heap for so many places, 1 to 16. Needs the feature `alloc`.
@@ -64,7 +65,7 @@ impl<const PLACES: usize> HasWords for Owned<PLACES> {
 #[cfg(feature = "alloc")]
 impl<const PLACES: usize> Memory for Owned<PLACES> {}
 
-/// Memory that the store borrows.
+/// Memory that a store, or sent packets, borrow.
 pub struct Borrowed<'a> {
     places: &'a mut [u64],
     cells: &'a mut [u64],

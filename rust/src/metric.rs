@@ -70,7 +70,7 @@ impl fmt::Display for Mark {
 }
 
 /// The kinds of metric as numbers, as [`Block::decode_metrics`](crate::Block::decode_metrics)
-/// writes them.
+/// writes them, and one more of a [`Status`](crate::Status), which only C has as a number.
 pub mod kind {
     /// [`Metric::NotReceived`](crate::Metric::NotReceived).
     pub const NOT_RECEIVED: u8 = 0;
@@ -80,6 +80,8 @@ pub mod kind {
     pub const OVER_RANGE: u8 = 2;
     /// [`Metric::NoTime`](crate::Metric::NoTime).
     pub const NO_TIME: u8 = 3;
+    /// [`Status::NotReported`](crate::Status::NotReported): no metric is of this kind.
+    pub const NOT_REPORTED: u8 = 4;
 }
 
 /// What a metric says of one sequence number. Only one of the four kinds has an offset, so "over

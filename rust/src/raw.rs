@@ -6,7 +6,8 @@
 #![allow(unsafe_code)]
 
 use crate::memory::{Words, WordsMut};
-use crate::{kind, Block, Mark, Metric, Refusal, Report, Request, RtcpPacket, Stream, Time};
+use crate::{kind, Block, Mark, Metric, Refusal, Report, Request, RtcpPacket};
+use crate::{Status, Stream, Time};
 
 // As in include/ccfb.h; a call writes its outputs through references.
 #[rustfmt::skip]
@@ -73,6 +74,18 @@ extern "C" {
         datagram: *const u8, len: usize, at: &mut usize, packet_type: &mut u8, format: &mut u8,
         packet_at: &mut usize, packet_length: &mut usize,
     ) -> u8;
+    fn ccfb_register(
+        places: *mut u64, places_len: usize, cells: *mut u64, cells_len: usize,
+        ssrc: u32, number: u16,
+    ) -> u8;
+    fn ccfb_take_in(
+        places: *const u64, places_len: usize, cells: *mut u64, cells_len: usize,
+        packet: *const u8, len: usize,
+    ) -> u8;
+    fn ccfb_status(
+        places: *const u64, places_len: usize, cells: *const u64, cells_len: usize,
+        ssrc: u32, number: u16, kind: &mut u8, mark: &mut u8, time: &mut u32,
+    ) -> u8;
 }
 
 fn answer<T>(refused: u8, value: T) -> Result<T, Refusal> {
@@ -97,6 +110,17 @@ fn metric_of(kind: u8, mark: u8, offset: u16) -> Metric {
         kind::RECEIVED => Metric::Received { mark, offset },
         kind::OVER_RANGE => Metric::OverRange { mark },
         _ => Metric::NoTime { mark }, // kind::NO_TIME, the only other one
+    }
+}
+
+fn status_of(kind: u8, mark: u8, time: u32) -> Status {
+    let mark = Mark::of_bits(mark);
+    match kind {
+        kind::NOT_RECEIVED => Status::Missing,
+        kind::RECEIVED => Status::Received { mark, time },
+        kind::OVER_RANGE => Status::OverRange { mark },
+        kind::NO_TIME => Status::NoTime { mark },
+        _ => Status::NotReported, // kind::NOT_REPORTED, the only other one
     }
 }
 
@@ -353,9 +377,54 @@ pub fn next_packet<'a>(datagram: &'a [u8], at: &mut usize) -> Result<RtcpPacket<
     Ok(RtcpPacket { packet_type, format, octets })
 }
 
+pub fn register(words: WordsMut<'_>, ssrc: u32, number: u16) -> Result<(), Refusal> {
+    let WordsMut { places, cells } = words;
+    let (cells, cells_len) = (cells.as_mut_ptr(), cells.len());
+    // SAFETY: each pointer is passed with the length of its slice.
+    let refused =
+        unsafe { ccfb_register(places.as_mut_ptr(), places.len(), cells, cells_len, ssrc, number) };
+    answer(refused, ())
+}
+
+pub fn take_in(words: WordsMut<'_>, packet: &[u8]) -> Result<(), Refusal> {
+    let WordsMut { places, cells } = words;
+    // SAFETY: each pointer is passed with the length of its slice.
+    let refused = unsafe {
+        ccfb_take_in(
+            places.as_ptr(),
+            places.len(),
+            cells.as_mut_ptr(),
+            cells.len(),
+            packet.as_ptr(),
+            packet.len(),
+        )
+    };
+    answer(refused, ())
+}
+
+pub fn status(words: Words<'_>, ssrc: u32, number: u16) -> Result<Status, Refusal> {
+    let Words { places, cells } = words;
+    let (mut kind, mut mark, mut time) = (0, 0, 0);
+    // SAFETY: each pointer is passed with the length of its slice; the others are references.
+    let refused = unsafe {
+        ccfb_status(
+            places.as_ptr(),
+            places.len(),
+            cells.as_ptr(),
+            cells.len(),
+            ssrc,
+            number,
+            &mut kind,
+            &mut mark,
+            &mut time,
+        )
+    };
+    answer(refused, status_of(kind, mark, time))
+}
+
 #[cfg(test)]
 mod tests {
-    use super::{answer, metric_of, part_of};
+    use super::{answer, metric_of, part_of, status_of};
 
     /// The library gives none of these answers.
     #[test]
@@ -367,6 +436,7 @@ mod tests {
         for number in 0..=u8::MAX {
             assert_eq!(answer(number, ()).is_ok(), number == 0);
             metric_of(number, number, u16::MAX);
+            status_of(number, number, u32::MAX);
         }
     }
 }

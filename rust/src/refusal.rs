@@ -85,6 +85,7 @@ refusals! {
     30 NoNumber "no such sequence number in the block"
     31 BadDatagram "not a valid RTCP datagram"
     32 NoPacket "no such packet in the datagram"
+    37 NotRegistered "number not registered as sent, or not in the window"
 }
 
 impl Refusal {

@@ -91,6 +91,7 @@ fn kinds() {
         ("CCFB_RECEIVED", kind::RECEIVED),
         ("CCFB_OVER_RANGE", kind::OVER_RANGE),
         ("CCFB_NO_TIME", kind::NO_TIME),
+        ("CCFB_NOT_REPORTED", kind::NOT_REPORTED),
     ] {
         assert_eq!(value_of(name), kind.to_string(), "{name}");
     }

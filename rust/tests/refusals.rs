@@ -4,7 +4,7 @@
 
 mod common;
 
-use ccfb::{rewrite, Datagram, Mark, Packet, Refusal, Report, Request, Time};
+use ccfb::{rewrite, Datagram, Mark, Packet, Refusal, Report, Request, SentPackets, Status, Time};
 use common::store_with;
 
 /// A packet of one block of four numbers.
@@ -46,6 +46,24 @@ fn by_the_store() {
 }
 
 #[test]
+fn by_the_sent_packets() {
+    let mut sent = SentPackets::<1>::new();
+    assert_eq!(sent.status(7, 5_000), Err(Refusal::NotHeld));
+    assert_eq!(sent.register(7, 5_000), Ok(()));
+    assert_eq!(sent.register(8, 5_000), Err(Refusal::NoFreePlace));
+    assert_eq!(sent.status(8, 5_000), Err(Refusal::NotHeld));
+    assert_eq!(sent.register(7, 2_952), Err(Refusal::TooOld));
+    assert_eq!(sent.register(7, 37_768), Err(Refusal::TooOld));
+    for number in [4_999, 5_001, 2_953, 2_952, 37_768] {
+        assert_eq!(sent.status(7, number), Err(Refusal::NotRegistered));
+    }
+    assert_eq!(sent.register(7, 2_953), Ok(()));
+    assert_eq!(sent.status(7, 2_953), Ok(Status::NotReported));
+    assert_eq!(sent.register(7, 37_767), Ok(()));
+    assert_eq!(sent.status(7, 5_000), Err(Refusal::NotRegistered));
+}
+
+#[test]
 fn by_the_writer() {
     let of_7 = |begin, count| Request { ssrc: 7, begin, count };
     let unknown = Request { ssrc: 8, begin: 0, count: 0 };
@@ -62,7 +80,7 @@ fn by_the_writer() {
 }
 
 #[test]
-fn by_the_reader_and_the_rewriter() {
+fn by_what_reads_a_packet() {
     let cases: [(&[u8], Refusal); 12] = [
         (&[], Refusal::PacketTooShort),
         (&PACKET[..11], Refusal::PacketTooShort),
@@ -81,6 +99,7 @@ fn by_the_reader_and_the_rewriter() {
     for (octets, refusal) in cases {
         assert_eq!(Packet::read(octets), Err(refusal));
         assert_eq!(rewrite(octets, &mut []), Err(refusal));
+        assert_eq!(SentPackets::<1>::new().take_in(octets), Err(refusal));
     }
     assert_eq!(rewrite(&PACKET, &mut [0; 27]), Err(Refusal::OutputTooShort));
 }
