@@ -1,75 +1,142 @@
 /*
- * A receiver's whole round. Three cameras send; the receiver records what arrives and reports
- * twice, each time on what came since the last report; each camera reads what the reports say of
- * its own packets. Times are made up here: examples/wire.c has sockets and a real clock.
+ * Both ends of a stream, for three seconds. The camera registers each packet that it sends; the
+ * receiver records what arrives, and reports every 200 ms; the camera takes in the feedback, and
+ * says what became of its packets. On the way packets are lost, late, copied or marked CE; one
+ * feedback packet is lost, and one comes twice.
+ * The link and its times are made up here: examples/wire.c has sockets and a real clock.
  */
 #include "ccfb.h"
 
 #include <stdio.h>
 #include <stdlib.h>
+#include <string.h>
 
 enum {
-    PLACES = 4,
-    LIMIT = 40, /* octets of a packet: so few that camera 2's numbers take two packets */
-    ROOM = CCFB_ROOM(CCFB_CELLS(PLACES), PLACES) /* octets of the output: always enough */
+    RUN = 3000,         /* ms that are played */
+    PACKET_EVERY = 20,  /* ms */
+    REPORT_EVERY = 200, /* ms */
+    PACKETS = RUN / PACKET_EVERY,
+    FIRST_NUMBER = 65470, /* so that the numbers wrap */
+    AGAIN = 8,            /* numbers of the last report that each report repeats */
+    PLACES = 4,           /* streams that the receiver can hold; there is one */
+    LIMIT = 1200,         /* octets of a feedback packet */
+    ROOM = CCFB_ROOM(CCFB_CELLS(PLACES), PLACES) /* octets that are enough for any report */
 };
-
-/* A frame takes 1/16 s. */
-#define FRAME(n) (0x00100000u + 4096u * (n))
 
 #define RECEIVER 0x000000f1u
-#define CAMERA_1 0x0000ca01u
-#define CAMERA_2 0x0000ca02u
-#define CAMERA_3 0x0000ca03u
+#define CAMERA 0x0000ca01u
 
-struct arrival {
-    uint32_t ssrc;
+static unsigned now; /* ms since the start; both ends have this clock */
+
+/* That time as a count of 1/65536 s, which wraps after a second of the run. */
+static uint32_t count_of(unsigned ms)
+{
+    return 0xffff0000u + ms * 65536u / 1000;
+}
+
+/* Says so if a call was refused. It has then changed nothing, and the run goes on. */
+static bool accepted(uint8_t refused, const char *who)
+{
+    if (refused != 0)
+        printf("%s: refused, %s\n", who, ccfb_refusal_text(refused));
+    return refused == 0;
+}
+
+/* ---- The link */
+
+static unsigned below(unsigned bound)
+{
+    static uint32_t state = 3; /* with this start, all of it happens */
+    state = state * 1664525u + 1013904223u;
+    return (state >> 16) % bound;
+}
+
+static bool one_in(unsigned many)
+{
+    return below(many) == 0;
+}
+
+/* Packets on the way to the receiver; each may have a copy. */
+static struct media {
+    unsigned due; /* ms */
     uint16_t number;
     uint8_t mark;
-    bool time_known;
-    uint32_t time;
-};
+} media[2 * PACKETS];
+static size_t media_count;
 
-/* What arrives before the first report, at FRAME(199). */
-static const struct arrival before_first[] = {
-    {CAMERA_1, 7, CCFB_ECT_1, true, FRAME(50)}, /* then nothing for nine seconds */
-    {CAMERA_1, 8, CCFB_ECT_1, false, 0},        /* the time is unknown */
-    {CAMERA_2, 65533, CCFB_ECT_0, true, FRAME(196)},
-    {CAMERA_2, 65534, CCFB_ECT_0, true, FRAME(197)},
-    {CAMERA_3, 500, CCFB_ECT_0, true, FRAME(197)},
-    {CAMERA_1, 9, CCFB_ECT_1, true, FRAME(198)},
-    {CAMERA_2, 65535, CCFB_CE, true, FRAME(198)},
-    {CAMERA_3, 501, CCFB_ECT_0, true, FRAME(198)},
-    {CAMERA_3, 501, CCFB_CE, true, FRAME(199)}, /* a copy: the first time stays, CE counts */
-};
+static void put_media(unsigned delay, uint16_t number, uint8_t mark)
+{
+    struct media *m = &media[media_count++];
+    m->due = now + delay;
+    m->number = number;
+    m->mark = mark;
+}
 
-/* What arrives before the second one, at FRAME(201). Camera 1 is silent. */
-static const struct arrival before_second[] = {
-    {CAMERA_2, 1, CCFB_ECT_0, true, FRAME(200)}, /* 0 is lost */
-    {CAMERA_3, 502, CCFB_ECT_0, true, FRAME(200)},
-    {CAMERA_2, 60000, CCFB_ECT_0, true, FRAME(200)}, /* too old: refused */
-    {CAMERA_3, 503, CCFB_ECT_0, true, FRAME(201)},
-};
+static void send_media(uint16_t number)
+{
+    unsigned delay = 20 + below(20);
+    uint8_t mark = one_in(12) ? CCFB_CE : CCFB_ECT_1;
+    if (one_in(20))
+        delay += 100; /* late */
+    if (one_in(15))
+        return; /* lost */
+    put_media(delay, number, mark);
+    if (one_in(20))
+        put_media(delay + 5, number, CCFB_ECT_1); /* a copy */
+}
+
+/* Feedback packets on the way to the camera. */
+static struct feedback {
+    unsigned due; /* ms */
+    bool again;   /* this is a copy */
+    size_t len;
+    uint8_t octets[LIMIT];
+} feedback[2 * RUN / REPORT_EVERY];
+static size_t feedback_count;
+
+static void put_feedback(unsigned delay, bool again, const uint8_t *packet, size_t len)
+{
+    struct feedback *f = &feedback[feedback_count++];
+    f->due = now + delay;
+    f->again = again;
+    f->len = len;
+    memcpy(f->octets, packet, len);
+}
+
+static void send_feedback(const uint8_t *packet, size_t len)
+{
+    enum { LOST = 5, COPIED = 8, DELAY = 30 };
+    static unsigned packets;
+    packets++;
+    if (packets == LOST)
+        printf("  %4u ms  (a feedback packet is lost)\n", now);
+    else
+        put_feedback(DELAY, false, packet, len);
+    if (packets == COPIED)
+        put_feedback(DELAY + REPORT_EVERY + 10, true, packet, len); /* after the next one */
+}
+
+/* ---- The receiver */
 
 static uint64_t places[PLACES]; /* zeroed: a fresh store */
 static uint64_t cells[CCFB_CELLS(PLACES)];
 
-static void record(const struct arrival *a)
-{
-    uint8_t refused = ccfb_arrive(places, PLACES, cells, CCFB_CELLS(PLACES), a->ssrc, a->number,
-                                  a->mark, a->time_known, a->time);
-    if (refused != 0)
-        printf("receiver: stream %08x, number %u: %s\n", (unsigned)a->ssrc, a->number,
-               ccfb_refusal_text(refused));
-}
-
 /* The last request that was sent for the stream in a place; its count is 0 if there was none. */
 static struct ccfb_request told[PLACES];
 
+static void receive_all(void)
+{
+    for (const struct media *m = media; m < media + media_count; m++)
+        if (m->due == now)
+            accepted(ccfb_arrive(places, PLACES, cells, CCFB_CELLS(PLACES), CAMERA, m->number,
+                                 m->mark, true, count_of(now)),
+                     "receiver");
+}
+
 /*
- * The next request for the stream of place k: the numbers since the last report. The first report
- * starts at the oldest number that arrived: those from before it were not lost. false: there is
- * nothing new.
+ * The next request for the stream of place k: the numbers since the last report, and up to AGAIN of
+ * that one, of which some may have come late. The first report starts at the oldest number that
+ * arrived: those from before it were not lost. false: the place is free.
  */
 static bool next_request(size_t k, struct ccfb_request *request)
 {
@@ -79,106 +146,190 @@ static bool next_request(size_t k, struct ccfb_request *request)
         ccfb_oldest(places, PLACES, cells, CCFB_CELLS(PLACES), k, &oldest) != 0)
         return false;
     request->begin = oldest;
-    if (last->count != 0 && last->ssrc == request->ssrc)
-        request->begin = (uint16_t)(last->begin + last->count);
+    if (last->count != 0 && last->ssrc == request->ssrc) {
+        uint16_t again = last->count < AGAIN ? last->count : (uint16_t)AGAIN;
+        request->begin = (uint16_t)(last->begin + last->count - again);
+    }
     request->count = (uint16_t)(highest - request->begin + 1);
     if (request->count > CCFB_CELLS_OF_A_PLACE) { /* the store knows of no more */
         request->count = CCFB_CELLS_OF_A_PLACE;
         request->begin = (uint16_t)(highest - (CCFB_CELLS_OF_A_PLACE - 1));
     }
-    return request->count != 0;
+    return true;
 }
 
-/* How many octets a written packet has, by its length field. */
-static size_t octets_of(const uint8_t *packet)
+static void report(void)
 {
-    return 4 * ((size_t)packet[2] * 256 + packet[3] + 1);
-}
-
-static void print_hex(const uint8_t *octets, size_t len)
-{
-    for (size_t i = 0; i < len; i++)
-        printf("%02x", octets[i]);
-    printf("\n");
-}
-
-static void print_metric(uint16_t number, uint8_t kind, uint8_t mark, uint16_t offset)
-{
-    static const char *const marks[] = {"not-ECT", "ECT(1)", "ECT(0)", "CE"};
-    switch (kind) {
-    case CCFB_NOT_RECEIVED:
-        printf("  %5u  missing\n", number);
-        break;
-    case CCFB_RECEIVED:
-        printf("  %5u  %5.1f ms before RTS, %s\n", number, offset * 1000.0 / 1024.0, marks[mark]);
-        break;
-    case CCFB_OVER_RANGE:
-        printf("  %5u  over range, %s\n", number, marks[mark]);
-        break;
-    case CCFB_NO_TIME:
-        printf("  %5u  no time, %s\n", number, marks[mark]);
-        break;
-    }
-}
-
-/* The camera's side: a walk over the blocks of a packet, and over the metrics of its own block. */
-static void camera_reads(uint32_t camera, const uint8_t *packet, size_t len)
-{
-    uint32_t ssrc;
-    uint16_t begin, count;
-    size_t at, metrics_at;
-    uint8_t refused = ccfb_first_block(packet, len, &at);
-    while (refused == 0) {
-        refused = ccfb_next_block(packet, len, &at, &ssrc, &begin, &count, &metrics_at);
-        if (refused != 0 || ssrc != camera)
-            continue;
-        printf("camera %08x: count %u, starting at %u\n", (unsigned)camera, count, begin);
-        for (size_t j = 0; j < count; j++) {
-            uint8_t kind, mark = 0;
-            uint16_t offset = 0;
-            ccfb_metric_at(packet + metrics_at, 2 * (size_t)count, j, &kind, &mark, &offset);
-            print_metric((uint16_t)(begin + j), kind, mark, offset);
-        }
-    }
-    if (refused != CCFB_NO_BLOCK)
-        printf("camera %08x: %s\n", (unsigned)camera, ccfb_refusal_text(refused));
-}
-
-/* Writes the report of that time, and hands every packet to each camera. */
-static void report(uint32_t rts)
-{
-    static const uint32_t cameras[] = {CAMERA_1, CAMERA_2, CAMERA_3};
     static uint8_t out[ROOM];
     struct ccfb_request requests[PLACES];
-    size_t place[PLACES], n = 0, packets, octets;
-    uint8_t refused;
-
+    size_t place[PLACES], n = 0, packets, octets, at = 0, packet_at, length;
+    uint8_t type, format;
     for (size_t k = 0; k < PLACES; k++)
         if (next_request(k, &requests[n]))
             place[n++] = k;
-    refused = ccfb_write(places, PLACES, cells, CCFB_CELLS(PLACES), RECEIVER, rts, LIMIT, requests,
-                         n, out, ROOM, &packets, &octets);
-    if (refused != 0) {
-        printf("receiver: no feedback: %s\n", ccfb_refusal_text(refused));
-        exit(EXIT_FAILURE);
-    }
-    printf("receiver: packets %zu, octets %zu\n", packets, octets);
-    for (size_t at = 0; at < octets; at += octets_of(out + at))
-        print_hex(out + at, octets_of(out + at));
-    for (size_t c = 0; c < sizeof cameras / sizeof cameras[0]; c++)
-        for (size_t at = 0; at < octets; at += octets_of(out + at))
-            camera_reads(cameras[c], out + at, octets_of(out + at));
+    if (!accepted(ccfb_write(places, PLACES, cells, CCFB_CELLS(PLACES), RECEIVER, count_of(now),
+                             LIMIT, requests, n, out, ROOM, &packets, &octets),
+                  "receiver"))
+        return; /* the next report has the numbers too */
+    while (ccfb_next_packet(out, octets, &at, &type, &format, &packet_at, &length) == 0)
+        send_feedback(out + packet_at, length);
     for (size_t i = 0; i < n; i++)
         told[place[i]] = requests[i];
 }
 
+/* ---- The camera */
+
+static uint64_t sent_places[1]; /* zeroed: nothing was sent */
+static uint64_t sent_cells[CCFB_CELLS(1)];
+
+/* What is known of a packet: the kind of its status, and the mark and the delay if it has them. */
+struct known {
+    uint8_t kind;
+    uint8_t mark;
+    unsigned delay; /* ms */
+};
+
+static unsigned sent;               /* packets so far; packet i was sent at i * PACKET_EVERY */
+static struct known known[PACKETS]; /* as of the last feedback that came */
+
+static uint16_t number_of(unsigned i)
+{
+    return (uint16_t)(FIRST_NUMBER + i);
+}
+
+static bool is_received(uint8_t kind)
+{
+    return kind == CCFB_RECEIVED || kind == CCFB_OVER_RANGE || kind == CCFB_NO_TIME;
+}
+
+static uint8_t ask(uint16_t number, uint8_t *kind, uint8_t *mark, uint32_t *time)
+{
+    return ccfb_status(sent_places, 1, sent_cells, CCFB_CELLS(1), CAMERA, number, kind, mark, time);
+}
+
+static void update(unsigned i)
+{
+    uint32_t time = 0;
+    if (accepted(ask(number_of(i), &known[i].kind, &known[i].mark, &time), "camera") &&
+        known[i].kind == CCFB_RECEIVED)
+        known[i].delay = (time - count_of(i * PACKET_EVERY)) * 1000u / 65536u;
+}
+
+static void send_packet(void)
+{
+    uint16_t number = number_of(sent);
+    accepted(ccfb_register(sent_places, 1, sent_cells, CCFB_CELLS(1), CAMERA, number), "camera");
+    send_media(number);
+    update(sent++);
+}
+
+/* What is known now that was not known before. */
+static void print_news(void)
+{
+    static struct known before[PACKETS];
+    unsigned received = 0, missing = 0;
+    memcpy(before, known, sizeof known);
+    for (unsigned i = 0; i < sent; i++) {
+        update(i);
+        received += before[i].kind == CCFB_NOT_REPORTED && is_received(known[i].kind);
+        missing += before[i].kind == CCFB_NOT_REPORTED && known[i].kind == CCFB_NOT_RECEIVED;
+    }
+    printf("%2u received, %u missing", received, missing);
+    for (unsigned i = 0; i < sent; i++)
+        if (before[i].kind == CCFB_NOT_RECEIVED && is_received(known[i].kind))
+            printf("; seq %u was missing, is received", number_of(i));
+}
+
+/* What a packet, of one block here, calls missing although an earlier one said "received". */
+static void print_kept(const uint8_t *packet, size_t len)
+{
+    uint16_t number, offset;
+    uint8_t kind, mark;
+    uint32_t time;
+    for (size_t j = 0; ccfb_metric(packet, len, 0, j, &number, &kind, &mark, &offset) == 0; j++)
+        if (kind == CCFB_NOT_RECEIVED && ask(number, &kind, &mark, &time) == 0 && is_received(kind))
+            printf("; seq %u stays received", number);
+}
+
+static void take_in_all(void)
+{
+    for (const struct feedback *f = feedback; f < feedback + feedback_count; f++) {
+        if (f->due != now ||
+            !accepted(ccfb_take_in(sent_places, 1, sent_cells, CCFB_CELLS(1), f->octets, f->len),
+                      "camera"))
+            continue;
+        printf("  %4u ms  ", now);
+        print_news();
+        if (f->again)
+            printf("; an old packet again");
+        print_kept(f->octets, f->len);
+        printf("\n");
+    }
+}
+
+/* ---- What became of the packets */
+
+static const char *name_of(uint8_t kind)
+{
+    switch (kind) {
+    case CCFB_NOT_RECEIVED: return "missing";
+    case CCFB_RECEIVED: return "received";
+    case CCFB_OVER_RANGE: return "received, over range";
+    case CCFB_NO_TIME: return "received, no time";
+    default: return "not reported";
+    }
+}
+
+/* A line for the packets from one index up to another, which are of one kind. */
+static void print_range(unsigned from, unsigned to)
+{
+    unsigned shortest = known[from].delay, longest = shortest, congested = 0;
+    for (unsigned i = from; i < to; i++) {
+        shortest = known[i].delay < shortest ? known[i].delay : shortest;
+        longest = known[i].delay > longest ? known[i].delay : longest;
+        congested += known[i].mark == CCFB_CE;
+    }
+    printf("  seq %5u", number_of(from));
+    if (to - from > 1)
+        printf(" to %5u", number_of(to - 1));
+    printf("%*s%s", to - from > 1 ? 2 : 11, "", name_of(known[from].kind));
+    if (known[from].kind == CCFB_RECEIVED && shortest < longest)
+        printf(", delay %u to %u ms", shortest, longest);
+    else if (known[from].kind == CCFB_RECEIVED)
+        printf(", delay %u ms", shortest);
+    if (congested != 0)
+        printf(", %u CE", congested);
+    printf("\n");
+}
+
+static void print_packets(void)
+{
+    unsigned of_kind[CCFB_NOT_REPORTED + 1] = {0}, congested = 0, from = 0;
+    for (unsigned i = 0; i < sent; i++) {
+        of_kind[known[i].kind]++;
+        congested += known[i].mark == CCFB_CE;
+        if (i + 1 == sent || known[i + 1].kind != known[i].kind) {
+            print_range(from, i + 1);
+            from = i + 1;
+        }
+    }
+    printf("%u sent: %u received (%u CE), %u missing, %u not reported\n", sent,
+           of_kind[CCFB_RECEIVED] + of_kind[CCFB_OVER_RANGE] + of_kind[CCFB_NO_TIME], congested,
+           of_kind[CCFB_NOT_RECEIVED], of_kind[CCFB_NOT_REPORTED]);
+}
+
 int main(void)
 {
-    for (size_t i = 0; i < sizeof before_first / sizeof before_first[0]; i++)
-        record(&before_first[i]);
-    report(FRAME(199));
-    for (size_t i = 0; i < sizeof before_second / sizeof before_second[0]; i++)
-        record(&before_second[i]);
-    report(FRAME(201));
+    printf("The camera learns, as feedback comes:\n");
+    for (now = 0; now < RUN; now++) {
+        if (now % PACKET_EVERY == 0)
+            send_packet();
+        receive_all();
+        if (now % REPORT_EVERY == 0)
+            report();
+        take_in_all();
+    }
+    printf("What became of the packets:\n");
+    print_packets();
     return EXIT_SUCCESS;
 }
