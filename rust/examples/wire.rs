@@ -1,11 +1,13 @@
 //! Feedback on the wire: a camera and a receiver over UDP, on this machine and by its real clock.
-//! The camera sends RTP, of which some is lost; the receiver reports after every 20 packets, and
-//! the camera reads the reports. They are sent alone, as reduced-size RTCP allows.
+//! The camera sends RTP, of which some is lost; the receiver reports after every 20 packets; the
+//! camera takes in the reports, and prints what became of its packets. Reports are sent alone, as
+//! reduced-size RTCP allows.
 //!
 //! The standard library does not tell the ECN field of a datagram: here it counts as not-ECT.
 //! examples/wire.c, beside this crate, takes it and the time of arrival from the kernel.
 
-use ccfb::{ntp_time, Block, Datagram, Mark, Metric, Report, Reporter, Store, Time};
+use ccfb::{ntp_time, Datagram, Mark, Report, Reporter, RtcpPacket};
+use ccfb::{SentPackets, Status, Store, Time};
 use std::error::Error;
 use std::io::{self, ErrorKind};
 use std::net::{Ipv4Addr, UdpSocket};
@@ -78,60 +80,78 @@ fn received(socket: &UdpSocket, datagram: &mut [u8]) -> io::Result<Option<usize>
     }
 }
 
-fn send_rtp(camera: &UdpSocket, number: u16) -> io::Result<()> {
-    let mut packet = [0; RTP_HEADER + 1_000];
-    packet[..2].copy_from_slice(&[0x80, 96]); // version 2, payload type 96
-    packet[2..4].copy_from_slice(&number.to_be_bytes());
-    packet[8..12].copy_from_slice(&CAMERA.to_be_bytes());
-    camera.send(&packet).map(|_| ())
+struct Camera {
+    socket: UdpSocket,
+    sent: SentPackets<1>,
+    next: u16,
 }
 
-/// Prints what the feedback in a datagram says of the camera's stream.
-fn print_reports(datagram: Datagram) {
-    for packet in datagram.feedback() {
-        match packet {
-            Ok(packet) => packet.blocks().filter(|b| b.ssrc() == CAMERA).for_each(print_block),
-            Err(refusal) => eprintln!("camera: {refusal}"),
+impl Camera {
+    /// Sends the next packet, or loses it on the way.
+    fn send(&mut self, lost: bool) -> Result<(), Box<dyn Error>> {
+        let mut packet = [0; RTP_HEADER + 1_000];
+        packet[..2].copy_from_slice(&[0x80, 96]); // version 2, payload type 96
+        packet[2..4].copy_from_slice(&self.next.to_be_bytes());
+        packet[8..12].copy_from_slice(&CAMERA.to_be_bytes());
+        self.sent.register(CAMERA, self.next)?;
+        if !lost {
+            self.socket.send(&packet)?;
+        }
+        self.next = self.next.wrapping_add(1);
+        Ok(())
+    }
+
+    /// Takes in the feedback of every datagram that has come. Other RTCP packets in it are passed
+    /// over.
+    fn take_in_all(&mut self) -> io::Result<()> {
+        let mut datagram = [0; DATAGRAM];
+        while let Some(len) = received(&self.socket, &mut datagram)? {
+            match Datagram::read(&datagram[..len]) {
+                Ok(datagram) => self.take_in(datagram),
+                Err(refusal) => eprintln!("camera: {refusal}"),
+            }
+        }
+        Ok(())
+    }
+
+    fn take_in(&mut self, datagram: Datagram) {
+        for packet in datagram.packets().filter(RtcpPacket::is_ccfb) {
+            if let Err(refusal) = self.sent.take_in(packet.octets()) {
+                eprintln!("camera: {refusal}");
+            }
         }
     }
-}
 
-fn print_block(block: Block) {
-    let missing = block.metrics().filter(|(_, metric)| *metric == Metric::NotReceived).count();
-    let (begin, count) = (block.begin(), block.count());
-    println!("starting at {begin}: {count} numbers, {missing} missing");
-}
-
-/// Reads every datagram that has come. Other RTCP packets in it are passed over.
-fn read_reports(camera: &UdpSocket) -> io::Result<()> {
-    let mut datagram = [0; DATAGRAM];
-    while let Some(len) = received(camera, &mut datagram)? {
-        match Datagram::read(&datagram[..len]) {
-            Ok(datagram) => print_reports(datagram),
-            Err(refusal) => eprintln!("camera: {refusal}"),
-        }
+    /// Prints what is known of the packets that were sent since the start.
+    fn print_sent(&self) {
+        let count = self.next.wrapping_sub(FIRST_NUMBER);
+        let numbers = (0..count).map(|i| FIRST_NUMBER.wrapping_add(i));
+        let known: Vec<_> = numbers.flat_map(|n| self.sent.status(CAMERA, n)).collect();
+        let received = known.iter().filter(|status| status.is_received()).count();
+        let missing = known.iter().filter(|status| **status == Status::Missing).count();
+        println!("{count} sent: {received} received, {missing} missing");
     }
-    Ok(())
 }
 
 fn main() -> Result<(), Box<dyn Error>> {
-    let (camera, socket) =
-        (UdpSocket::bind((Ipv4Addr::LOCALHOST, 0))?, UdpSocket::bind((Ipv4Addr::LOCALHOST, 0))?);
-    camera.connect(socket.local_addr()?)?;
-    socket.connect(camera.local_addr()?)?;
-    camera.set_nonblocking(true)?;
-    socket.set_nonblocking(true)?;
-    let mut receiver = Receiver { socket, store: Store::new(), reporter: Reporter::new(OVERLAP) };
+    let ours = UdpSocket::bind((Ipv4Addr::LOCALHOST, 0))?;
+    let theirs = UdpSocket::bind((Ipv4Addr::LOCALHOST, 0))?;
+    ours.connect(theirs.local_addr()?)?;
+    theirs.connect(ours.local_addr()?)?;
+    ours.set_nonblocking(true)?;
+    theirs.set_nonblocking(true)?;
+    let mut camera = Camera { socket: ours, sent: SentPackets::new(), next: FIRST_NUMBER };
+    let mut receiver =
+        Receiver { socket: theirs, store: Store::new(), reporter: Reporter::new(OVERLAP) };
 
     for i in 0..PACKETS {
-        if i % 30 != 25 {
-            send_rtp(&camera, FIRST_NUMBER.wrapping_add(i))?; // the others are lost
-        }
+        camera.send(i % 30 == 25)?;
         sleep(Duration::from_millis(1));
         receiver.receive_all()?;
         if (i + 1) % PACKETS_OF_A_REPORT == 0 {
             receiver.report()?;
-            read_reports(&camera)?;
+            camera.take_in_all()?;
+            camera.print_sent();
         }
     }
     Ok(())
