@@ -1,7 +1,7 @@
 -- Rules: "Sent packets". What the calls for C of a sender answer, 0 or the number of a refusal, and
 -- what they leave in the store and behind their pointers.
 use Prim.Native.Nat.{ℕ}
-use mathlib.Core.List.{List, [], _∷_}
+use mathlib.Core.List.{[], _∷_}
 use Rattle.refusal.specs.Numbers.{numberOf}
 use Rattle.places.specs.After.{StoreAfter, storeAfter}
 use Rattle.sent_word.specs.declared.Status.{Status}

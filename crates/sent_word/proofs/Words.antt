@@ -14,8 +14,9 @@ use Rattle.sent_word.specs.Word.{heldMetric, heldRts, heldStatus, readWo
 use Rattle.sent_word.proofs.ByKind.{read-none, read-not-reported, read-missing, read-received, by-kind}
 use Rattle.sent_word.proofs.ByKind.{registered-new, registered-again, reported-none, reported-received, reported-missing, reported-kept}
 use Rattle.metric.specs.declared.Metric.the-variants as metric
-use Rattle.sent_word.specs.declared.Status.the-variants.{Received}
-use Rattle.sent_word.specs.declared.Sent.the-variants.{NotRegistered}
+use Rattle.sent_word.specs.declared.Status.{Status}
+use Rattle.sent_word.specs.declared.Status.the-variants.{NotReported, Missing, Received}
+use Rattle.sent_word.specs.declared.Sent.the-variants.{NotRegistered, Registered}
 
 -- ---- a received word is read back
 
@@ -116,24 +117,39 @@ holds-received : (word : ℕ) → isReceived (heldStatus word) ≡ true
 unfolding heldStatus
 holds-received word = says-received (heldMetric word) (heldRts word) (omega arith)
 
+-- "received" replaces whatever is known
+pub received-replaces : (held new : Status) → isReceived new ≡ true → reportedOver held new ≡ new
+unfolding reportedOver
+received-replaces held new e = rw e
+
+-- and "missing" replaces no "received"
+pub received-stays : (held : Status) → isReceived held ≡ true → reportedOver held Missing ≡ held
+unfolding reportedOver
+received-stays held e = rw e
+
+pub missing-replaces : (held : Status) → isReceived held ≡ false → reportedOver held Missing ≡ Missing
+unfolding reportedOver
+missing-replaces held e = rw e
+
 module _ (word metric rts : ℕ) (known : kindOf word ≡ notRegistered → ⊥) where
   received-over : receivedBit ≤ metric → readWord (wordReported metric rts word) ≡ afterReport (readWord word) (statusOf (decodeOf metric) rts)
-  unfolding reportedOver
   received-over l =
       rw (reported-received word metric rts known l, read-received (receivedWord metric rts) (received-kind metric rts), held-is metric rts l)
       (by-kind word known
-      (λ e. rw (read-not-reported word e, says-received metric rts l))
-      (λ e. rw (read-missing word e, says-received metric rts l))
-      (λ h. rw (read-received word h, says-received metric rts l)))
+      (λ e. rw (read-not-reported word e) (replaces NotReported))
+      (λ e. rw (read-missing word e) (replaces Missing))
+      (λ h. rw (read-received word h) (replaces (heldStatus word))))
+    where
+      replaces : (held : Status) → Registered (statusOf (decodeOf metric) rts) ≡ Registered (reportedOver held (statusOf (decodeOf metric) rts))
+      replaces held = ap Registered (sym (received-replaces held (statusOf (decodeOf metric) rts) (says-received metric rts l)))
 
   missing-over : metric < receivedBit → readWord (wordReported metric rts word) ≡ afterReport (readWord word) (statusOf (decodeOf metric) rts)
-  unfolding reportedOver
   missing-over l =
       rw (reads-not-received metric l)
       (by-kind word known
-      (λ e. rw (reported-missing word metric rts known l e, read-not-reported word e) (read-missing missing refl))
-      (λ e. rw (reported-kept word metric rts known l (λ f. omega arith), read-missing word e))
-      (λ h. rw (reported-kept word metric rts known l (λ f. omega arith), read-received word h, holds-received word)))
+      (λ e. rw (reported-missing word metric rts known l e, read-not-reported word e, missing-replaces NotReported refl) (read-missing missing refl))
+      (λ e. rw (reported-kept word metric rts known l (λ f. omega arith), read-missing word e, missing-replaces Missing refl))
+      (λ h. rw (reported-kept word metric rts known l (λ f. omega arith), read-received word h, received-stays (heldStatus word) (holds-received word))))
 
 pub read-reported : (metric rts word : ℕ) → readWord (wordReported metric rts word) ≡ afterReport (readWord word) (statusOf (decodeOf metric) rts)
 read-reported metric rts word =

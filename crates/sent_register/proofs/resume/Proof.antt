@@ -1,9 +1,7 @@
 -- `sent_register::resume` meets its contract. Assumes nothing.
-use Prim.Native.Nat.{min}
 use mathlib.Core.Path.{_≡_, sym, _∙_}
 use native.Mathlib.Omega.{arith}
 use Rattle.window.specs.Number.{moveOf}
-use Rattle.ring.specs.Ring.{cellsOfAPlace}
 use Rattle.window.proofs.Number.{ahead-is}
 use Rattle.places.specs.Place.{highestAt}
 use Rattle.place_window.proofs.Moving.{continued-by}
@@ -29,8 +27,7 @@ open-window-requires c κs =
     let args = start .args in
     let f = told .step .given .0 .0 in
     let known = ahead-is (highestAt (args .places .now) (args .p)) (args .number) f (sym (step-is moved) ∙ told .step .given .1) in
-    let n : c .newly .result ≡ min f cellsOfAPlace = c .newly .ensures in
-    (start .pre, (omega (arith, known .1), omega arith))
+    (start .pre, (omega (arith, known .1, c .newly .ensures), omega (arith, c .newly .ensures)))
 
 returns : tie.Need-returns
 returns c =
