@@ -2,3 +2,4 @@ pub mod Calls
 pub mod Meaning
 pub mod Model
 pub mod Stream
+pub mod Starred

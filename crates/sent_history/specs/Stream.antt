@@ -2,14 +2,14 @@
 -- its own accepted registrations and the reports on it make of it, whatever comes for others.
 use Prim.Native.Nat.{ℕ, max}
 use mathlib.Core.Bool.{Bool, true, false, cond, _&&_}
+use mathlib.Core.Path.{_≡_}
 use mathlib.Core.List.{List, [], _∷_, _++_}
 use lib.Dec.{eqb, leb}
 use Rattle.metric.specs.Metric.{decodeOf}
 use Rattle.metric.specs.declared.Metric.{Metric}
 use Rattle.reader.specs.Reading.{Decoded, packet, refused, decodePacket}
 use Rattle.streams.specs.Full.{fullOf, firstFull, isTooOld}
-use Rattle.streams.specs.Model.{Place, free, stream}
-use Rattle.sent_register.specs.declared.Registration.{Registration}
+use Rattle.streams.specs.Model.{Place, free, stream, highestIn, entriesIn}
 use Rattle.sent_block.specs.Reports.{Report, reportsOf}
 use Rattle.sent_history.specs.Calls.{Call, register, takeIn, CallAnswer, toRegistration, toTakingIn}
 use Rattle.sent_history.specs.Meaning.{Event, Entry, entryOf, registered, reported}
@@ -51,8 +51,8 @@ historyOf ssrc (c ∷ cs) (x ∷ xs) = happenedBy ssrc c x ++ historyOf ssrc cs 
 abbrev pub withEntry : ℕ → ℕ → List Entry → Event → ℕ → Place Entry
 withEntry ssrc top es event full = stream ssrc (max top full) (es ++ (entryOf event full ∷ []))
 
--- an accepted registration counts on, and takes a place for a new stream; a report is entered where its number is in
--- the window
+-- an accepted registration counts on, and takes a place for a new stream; a report is entered
+-- where its number is in the window
 abbrev pub streamAfter : ℕ → Place Entry → Happened → Place Entry
 streamAfter ssrc free (sent number) = withEntry ssrc 0 [] registered (firstFull number)
 streamAfter ssrc free (heard number m rts) = free
@@ -69,3 +69,45 @@ streamFrom ssrc P (h ∷ hs) = streamFrom ssrc (streamAfter ssrc P h) hs
 -- what the stream is after its history
 abbrev pub streamBy : ℕ → List Happened → Place Entry
 streamBy ssrc hs = streamFrom ssrc free hs
+
+-- ---- the registrations of a history by themselves
+
+-- the sequence numbers of the accepted registrations, in their order
+abbrev pub sentIn : List Happened → List ℕ
+sentIn [] = []
+sentIn (sent number ∷ hs) = number ∷ sentIn hs
+sentIn (heard number m rts ∷ hs) = sentIn hs
+
+-- their full numbers, and the highest after them
+unfoldable pub fullsFrom : ℕ → List ℕ → List ℕ
+fullsFrom top [] = []
+fullsFrom top (number ∷ more) = let full = fullOf top number in full ∷ fullsFrom (max top full) more
+
+unfoldable pub topFrom : ℕ → List ℕ → ℕ
+topFrom top [] = top
+topFrom top (number ∷ more) = topFrom (max top (fullOf top number)) more
+
+abbrev pub fullsOf : List ℕ → List ℕ
+fullsOf [] = []
+fullsOf (number ∷ more) = firstFull number ∷ fullsFrom (firstFull number) more
+
+abbrev pub topOf : List ℕ → ℕ
+topOf [] = 0
+topOf (number ∷ more) = topFrom (firstFull number) more
+
+-- the full numbers of the entries that are registrations, in their order
+abbrev pub withFull : Event → ℕ → List ℕ → List ℕ
+withFull registered full rest = full ∷ rest
+withFull (reported m rts) full rest = rest
+
+unfoldable pub registeredIn : List Entry → List ℕ
+registeredIn [] = []
+registeredIn (e ∷ es) = withFull (e .event) (e .full) (registeredIn es)
+
+-- the stream is held exactly if a registration was accepted; its highest full number and its
+-- registered full numbers go by the accepted registrations alone, whatever was reported
+pub record ByRegistrations (P : Place Entry) (numbers : List ℕ) : Type 0 where
+  pub none : numbers ≡ [] → P ≡ free
+  pub some : P ≡ free → numbers ≡ []
+  pub highest : highestIn P ≡ topOf numbers
+  pub entered : registeredIn (entriesIn P) ≡ fullsOf numbers
