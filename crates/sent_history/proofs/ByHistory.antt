@@ -1,0 +1,177 @@
+-- The theorems by history, over every list of calls to a fresh sender's store. Assumes nothing.
+use Prim.Native.Nat.{ℕ, _+_, _%_, _<_, _≤_}
+use mathlib.Core.Path.{_≡_, refl, sym, ap, _∙_}
+use mathlib.Core.Bool.{true}
+use mathlib.Core.List.{List, [], List·Memᴰ}
+use native.Mathlib.Omega.{arith}
+use borrow.Author.Tests.{eq-eqb}
+use lib.ListN.{length}
+use Rattle.lists.specs.All.{All}
+use Rattle.lists.specs.declared.Found.{Found}
+use Rattle.lists.proofs.Cases.{never}
+use Rattle.lists.proofs.First.{first-true}
+use Rattle.ring.specs.Ring.{cellsOfAPlace}
+use Rattle.window.specs.Number.{sequenceNumbers}
+use Rattle.places.specs.Place.{placeAt, isStream, findOf}
+use Rattle.place_window.specs.Window.{cellAt}
+use Rattle.streams.specs.Full.{fullOf}
+use Rattle.streams.specs.Model.{Place, stream, names, at, findIn, foundIn, streamIn, highestIn, entriesIn, vacant}
+use Rattle.streams.specs.Reading.{Store, Fresh, Holds, Reads}
+use Rattle.streams.proofs.Numbers.{full-behind}
+use Rattle.streams.proofs.Places.{named-is, named, find-same}
+use Rattle.streams.proofs.Fresh.{fresh-reads}
+use Rattle.streams.proofs.Alone.{vacant-once, vacant-stream}
+use Rattle.sent_word.specs.Word.{readWord}
+use Rattle.sent_word.specs.declared.Status.{Status}
+use Rattle.sent_word.specs.declared.Sent.{Sent}
+use Rattle.sent_status.specs.Status.{answerOf, statusAsked}
+use Rattle.sent_history.specs.Calls.{Call, CallAnswer, senderRun, senderAnswers, CallInRange}
+use Rattle.sent_history.specs.Meaning.{Entry, shownBy, AsReported}
+use Rattle.sent_history.specs.Model.{sentMeaning, modelRun, modelAnswers, modelStatus, modelAsked}
+use Rattle.sent_history.specs.Stream.{Happened, historyOf, streamFrom, streamBy, sentIn, fullsOf, topOf}
+use Rattle.sent_history.proofs.Sentences.{as-reported, as-reported-once}
+use Rattle.sent_history.proofs.Stream.{run-seen}
+use Rattle.sent_history.proofs.Registrations.{by-registrations, registered-have, registered-are}
+use Rattle.sent_history.proofs.Simulation.{simulates, status-alike, shown-at}
+use Rattle.lists.specs.declared.Found.the-variants.{At, Nothing}
+use Rattle.refusal.specs.declared.Refusal.the-variants.{NotRegistered}
+use Rattle.places.specs.declared.Holding.the-variants.{Held}
+use Rattle.sent_word.specs.declared.Sent.the-variants as sent
+use Rattle.sent_status.specs.declared.StatusAnswer.the-variants as answer
+
+-- each number of a window has its full number back, and its status by it
+full-of-window : (top n : ℕ) → sequenceNumbers ≤ top → n ≤ top → top < n + cellsOfAPlace → fullOf top (n % sequenceNumbers) ≡ n
+full-of-window top n g a b =
+    let f = full-behind top (n % sequenceNumbers) g (omega arith) (λ l. omega arith) in
+    omega arith
+
+window-status : (x top n : ℕ) (es : List Entry) → sequenceNumbers ≤ top → n ≤ top → top < n + cellsOfAPlace
+    → modelStatus (stream x top es) (n % sequenceNumbers) ≡ answerOf (shownBy es n)
+window-status x top n es g a b = rw (full-of-window top n g a b) (shown-at top n es a b)
+
+module _ (st : Store) (new : Fresh st) (cs : List Call) (range : All CallInRange cs) where
+  abbrev start : List (Place Entry)
+  start = vacant (length (st .places))
+
+  abbrev model : List (Place Entry)
+  model = modelRun start cs
+
+  abbrev after : Store
+  after = senderRun st cs
+
+  -- the store answers each call as the machine does
+  pub same-answers : senderAnswers st cs ≡ modelAnswers start cs
+  same-answers = simulates cs range st start (fresh-reads sentMeaning st new) .0
+
+  -- and reads as the machine says, place by place and cell by cell
+  pub same-reading : Reads sentMeaning after model
+  same-reading = simulates cs range st start (fresh-reads sentMeaning st new) .1
+
+  -- and says the same of each number
+  pub same-status : (ssrc number : ℕ) → number < sequenceNumbers → statusAsked (after .places) (after .cells) ssrc number ≡ modelAsked model ssrc number
+  same-status ssrc number low = status-alike after model same-reading ssrc number low
+
+  -- no SSRC in two places
+  pub no-ssrc-twice : (ssrc p q h g : ℕ) → placeAt (after .places) p ≡ Held ssrc h → placeAt (after .places) q ≡ Held ssrc g → p ≡ q
+  no-ssrc-twice ssrc p q h g a b = run-seen cs start (vacant-once Entry (length (st .places))) .once ssrc p q (test p h a) (test q g b)
+    where
+      test : (k h : ℕ) → placeAt (after .places) k ≡ Held ssrc h → names ssrc (at model k) ≡ true
+      test k h e =
+          sym (named sentMeaning (after .cells) k (placeAt (after .places) k) ssrc (at model k) (same-reading .each k))
+          ∙ ap (isStream ssrc) e
+          ∙ eq-eqb ssrc ssrc refl
+
+  -- ---- a stream by itself
+  module _ (ssrc : ℕ) where
+    abbrev history : List Happened
+    history = historyOf ssrc cs (senderAnswers st cs)
+
+    abbrev top : ℕ
+    top = highestIn (streamBy ssrc history)
+
+    abbrev entries : List Entry
+    entries = entriesIn (streamBy ssrc history)
+
+    pub by-history : streamIn model ssrc ≡ streamBy ssrc history
+    by-history =
+        run-seen cs start (vacant-once Entry (length (st .places))) .each ssrc
+        ∙ ap (λ (P : Place Entry). streamFrom ssrc P (historyOf ssrc cs (modelAnswers start cs))) (vacant-stream Entry (length (st .places)) ssrc)
+        ∙ sym (ap (λ (xs : List CallAnswer). streamBy ssrc (historyOf ssrc cs xs)) same-answers)
+
+    pub status-by-history : (number : ℕ) → number < sequenceNumbers
+        → statusAsked (after .places) (after .cells) ssrc number ≡ modelStatus (streamBy ssrc history) number
+    status-by-history number low = same-status ssrc number low ∙ ap (λ (P : Place Entry). modelStatus P number) by-history
+
+    -- no place holds the stream: no registration of it was accepted
+    pub not-held : findOf (after .places) ssrc ≡ Nothing → sentIn history ≡ []
+    not-held e =
+        by-registrations ssrc history .some
+        (sym by-history ∙ ap (λ (f : Found). foundIn f model) (sym (find-same sentMeaning after model same-reading ssrc) ∙ e))
+
+    -- a stream that the store holds
+    module _ (p : ℕ) (found : findOf (after .places) ssrc ≡ At p) where
+      held-there : (top′ : ℕ) × ((es : List Entry) × ((at model p ≡ stream ssrc top′ es) × (streamBy ssrc history ≡ stream ssrc top′ es)))
+      held-there =
+          let e : findIn model ssrc ≡ At p = sym (find-same sentMeaning after model same-reading ssrc) ∙ found in
+          let n = named-is ssrc (at model p) (first-true (λ (i : ℕ). names ssrc (at model i)) (length model) 0 p e) in
+          (n .0, (n .1 .0, (n .1 .1, sym by-history ∙ ap (λ (f : Found). foundIn f model) e ∙ n .1 .1)))
+
+      -- a registration of it was accepted
+      pub some-sent : sentIn history ≡ [] → ⊥
+      some-sent e = let f = sym (by-registrations ssrc history .none e) ∙ held-there .1 .1 .1 in never (cc)
+
+      -- its highest number, and each cell of its window, are as its history says
+      pub held-by-history : Holds sentMeaning (after .cells) p (placeAt (after .places) p) ssrc top entries
+      held-by-history =
+          let h = held-there in
+          rw (h .1 .1 .1) (rw (h .1 .1 .0) at (same-reading .each p))
+
+      -- its highest number is the highest of the accepted registrations
+      pub highest-by-history : placeAt (after .places) p ≡ Held ssrc (topOf (sentIn history) % sequenceNumbers)
+      highest-by-history = held-by-history .place ∙ ap (λ (t : ℕ). Held ssrc (t % sequenceNumbers)) (by-registrations ssrc history .highest)
+
+      -- each word of the window says what was reported, sentence by sentence
+      pub word-by-history : (n : ℕ) → n ≤ top → top < n + cellsOfAPlace → AsReported (readWord (cellAt (after .cells) p n)) entries n
+      word-by-history n a b = rw (held-by-history .window n a b) (as-reported entries n)
+
+      -- and the call answers with it: whatever the sentences hold of is the answer
+      pub status-as-reported : (n : ℕ) → n ≤ top → top < n + cellsOfAPlace → (a : Sent) → AsReported a entries n
+          → statusAsked (after .places) (after .cells) ssrc (n % sequenceNumbers) ≡ answerOf a
+      status-as-reported n a b s r =
+          let e = held-there .1 .1 .1 in
+          let same = as-reported-once entries n s (shownBy entries n) r (as-reported entries n) in
+          status-by-history (n % sequenceNumbers) (omega arith)
+          ∙ rw (same, e)
+          (window-status ssrc (held-there .0) n (held-there .1 .0) (rw e at (held-by-history .begun)) (rw e at a) (rw e at b))
+
+      -- 37 is not the answer about a number of the window exactly if an accepted registration had its full number
+      pub known-if-sent : (n : ℕ) → n ≤ top → top < n + cellsOfAPlace → List·Memᴰ n (fullsOf (sentIn history))
+          → statusAsked (after .places) (after .cells) ssrc (n % sequenceNumbers) ≡ answer.Refused NotRegistered → ⊥
+      known-if-sent n a b m h =
+          let there = registered-are entries n (rw (by-registrations ssrc history .entered) m) in
+          as-reported entries n .registered-if there
+          (unknown (shownBy entries n) (sym (status-as-reported n a b (shownBy entries n) (as-reported entries n)) ∙ h))
+        where
+          unknown : (s : Sent) → answerOf s ≡ answer.Refused NotRegistered → s ≡ sent.NotRegistered
+          unknown sent.NotRegistered e = refl
+          unknown (sent.Registered s) e = never (cc)
+
+      pub sent-if-known : (n : ℕ) → n ≤ top → top < n + cellsOfAPlace → (s : Status)
+          → statusAsked (after .places) (after .cells) ssrc (n % sequenceNumbers) ≡ answer.Known s → List·Memᴰ n (fullsOf (sentIn history))
+      sent-if-known n a b s h =
+          let shown = known (shownBy entries n) (sym (status-as-reported n a b (shownBy entries n) (as-reported entries n)) ∙ h) in
+          rw (← by-registrations ssrc history .entered) (registered-have entries n (as-reported entries n .registered-only s shown))
+        where
+          known : (x : Sent) → answerOf x ≡ answer.Known s → x ≡ sent.Registered s
+          known sent.NotRegistered e = never (cc)
+          known (sent.Registered t) e = let q : t ≡ s = cc in ap sent.Registered q
+
+-- two fresh stores with the same history of a stream say the same of each of its numbers
+module _ (st st′ : Store) (new : Fresh st) (new′ : Fresh st′) (cs cs′ : List Call) (range : All CallInRange cs) (range′ : All CallInRange cs′) where
+  pub same-stream : (ssrc : ℕ) → historyOf ssrc cs (senderAnswers st cs) ≡ historyOf ssrc cs′ (senderAnswers st′ cs′)
+      → (number : ℕ) → number < sequenceNumbers
+      → statusAsked (senderRun st cs .places) (senderRun st cs .cells) ssrc number ≡ statusAsked (senderRun st′ cs′ .places) (senderRun st′ cs′ .cells) ssrc number
+  same-stream ssrc same number low =
+      status-by-history st new cs range ssrc number low
+      ∙ ap (λ (hs : List Happened). modelStatus (streamBy ssrc hs) number) same
+      ∙ sym (status-by-history st′ new′ cs′ range′ ssrc number low)

@@ -1,0 +1,117 @@
+-- What is registered of a stream, and its highest, go by its accepted registrations alone. Assumes nothing.
+use Prim.Native.Nat.{ℕ, _≤_, max}
+use mathlib.Core.Path.{_≡_, refl, sym, ap, _∙_}
+use mathlib.Core.Bool.{Bool, true, false, cond}
+use mathlib.Core.List.{List, [], _∷_, _++_, append-nil, append-assoc}
+use mathlib.Core.List.{List·Memᴰ, List·Memᴰ·head, List·Memᴰ·tail, List·Memᴰ·not-nil, List·Memᴰ·cases-cons}
+use mathlib.Core.Logic.{⊎-elim}
+use native.Mathlib.Omega.{arith}
+use native.Mathlib.Decide.{decLe}
+use borrow.Author.Tests.{le-leb, lt-leb}
+use Rattle.lists.proofs.Cases.{never}
+use Rattle.metric.specs.declared.Metric.{Metric}
+use Rattle.streams.specs.Full.{fullOf, firstFull, isTooOld}
+use Rattle.streams.specs.Model.{Place, free, stream, highestIn, entriesIn}
+use Rattle.sent_history.specs.Meaning.{Entry, Event, entryOf, registered, reported}
+use Rattle.sent_history.specs.Stream.{Happened, sent, heard, withEntry, streamAfter, streamFrom, streamBy}
+use Rattle.sent_history.specs.Stream.{sentIn, fullsFrom, topFrom, withFull, registeredIn, ByRegistrations}
+
+-- one more entry
+registered-last : (es : List Entry) (e : Entry) → registeredIn (es ++ (e ∷ [])) ≡ registeredIn es ++ withFull (e .event) (e .full) []
+unfolding registeredIn
+registered-last [] e = refl
+registered-last (x ∷ es) e = ap (λ (l : List ℕ). withFull (x .event) (x .full) l) (registered-last es e) ∙ picked (x .event)
+  where
+    picked : (v : Event) → withFull v (x .full) (registeredIn es ++ withFull (e .event) (e .full) [])
+        ≡ withFull v (x .full) (registeredIn es) ++ withFull (e .event) (e .full) []
+    picked registered = refl
+    picked (reported m rts) = refl
+
+-- a held stream after more of its history
+record Grown (P : Place Entry) (top : ℕ) (es : List Entry) (numbers : List ℕ) : Type 0 where
+  pub held : P ≡ free → ⊥
+  pub highest : highestIn P ≡ topFrom top numbers
+  pub entered : registeredIn (entriesIn P) ≡ registeredIn es ++ fullsFrom top numbers
+
+module _ (ssrc : ℕ) where
+  -- what is heard of a held stream moves nothing and registers nothing
+  record Unmoved (P : Place Entry) (top : ℕ) (es : List Entry) : Type 0 where
+    pub x′ : ℕ
+    pub es′ : List Entry
+    pub is : P ≡ stream x′ top es′
+    pub same : registeredIn es′ ≡ registeredIn es
+
+  heard-unmoved : (x top : ℕ) (es : List Entry) (number : ℕ) (m : Metric) (rts : ℕ) → Unmoved (streamAfter ssrc (stream x top es) (heard number m rts)) top es
+  heard-unmoved x top es number m rts =
+      elim (decLe (fullOf top number) top) [
+        | yes l ↦ rw (le-leb (fullOf top number) top l) (picked l (isTooOld top (fullOf top number)))
+        | no l ↦ rw (lt-leb (fullOf top number) top (omega arith)) (record { x′ = x; es′ = es; is = refl; same = refl })
+      ]
+    where
+      picked : fullOf top number ≤ top → (b : Bool) → Unmoved (cond b (stream x top es) (withEntry ssrc top es (reported m rts) (fullOf top number))) top es
+      picked l true = record { x′ = x; es′ = es; is = refl; same = refl }
+      picked l false = record {
+        x′ = ssrc;
+        es′ = es ++ (entryOf (reported m rts) (fullOf top number) ∷ []);
+        is = let h : max top (fullOf top number) ≡ top = omega arith in rw h;
+        same = registered-last es (entryOf (reported m rts) (fullOf top number)) ∙ append-nil (registeredIn es);
+      }
+
+  grown : (hs : List Happened) (x top : ℕ) (es : List Entry) → Grown (streamFrom ssrc (stream x top es) hs) top es (sentIn hs)
+  unfolding streamFrom topFrom fullsFrom
+  grown [] x top es = record { held = λ e. never (cc); highest = refl; entered = sym (append-nil (registeredIn es)) }
+  grown (sent number ∷ hs) x top es =
+      let full = fullOf top number in
+      let g = grown hs ssrc (max top full) (es ++ (entryOf registered full ∷ [])) in
+      record {
+        held = g .held;
+        highest = g .highest;
+        entered =
+            g .entered
+            ∙ ap (λ (l : List ℕ). l ++ fullsFrom (max top full) (sentIn hs)) (registered-last es (entryOf registered full))
+            ∙ append-assoc (registeredIn es) (full ∷ []) (fullsFrom (max top full) (sentIn hs));
+      }
+  grown (heard number m rts ∷ hs) x top es =
+      let u = heard-unmoved x top es number m rts in
+      let g = grown hs (u .x′) top (u .es′) in
+      rw (u .is)
+      (record {
+        held = g .held;
+        highest = g .highest;
+        entered = g .entered ∙ ap (λ (l : List ℕ). l ++ fullsFrom top (sentIn hs)) (u .same);
+      })
+
+  pub by-registrations : (hs : List Happened) → ByRegistrations (streamBy ssrc hs) (sentIn hs)
+  unfolding streamFrom registeredIn
+  by-registrations [] = record { none = λ e. refl; some = λ e. refl; highest = refl; entered = refl }
+  by-registrations (sent number ∷ hs) =
+      let first : max 0 (firstFull number) ≡ firstFull number = omega arith in
+      let g = grown hs ssrc (firstFull number) (entryOf registered (firstFull number) ∷ []) in
+      rw first (record { none = λ e. never (cc); some = λ e. absurd (g .held e); highest = g .highest; entered = g .entered })
+  by-registrations (heard number m rts ∷ hs) = by-registrations hs
+
+-- ---- a full number is that of a registration exactly if its entry is there
+pub registered-have : (es : List Entry) (n : ℕ) → List·Memᴰ (entryOf registered n) es → List·Memᴰ n (registeredIn es)
+unfolding registeredIn
+registered-have [] n m = absurd (List·Memᴰ·not-nil m)
+registered-have (e ∷ es) n m = ⊎-elim here (λ h. there (e .event) (registered-have es n h)) (List·Memᴰ·cases-cons m)
+  where
+    here : entryOf registered n ≡ e → List·Memᴰ n (withFull (e .event) (e .full) (registeredIn es))
+    here h = rw (← h) (List·Memᴰ·head refl)
+
+    there : (v : Event) → List·Memᴰ n (registeredIn es) → List·Memᴰ n (withFull v (e .full) (registeredIn es))
+    there registered h = List·Memᴰ·tail h
+    there (reported x rts) h = h
+
+pub registered-are : (es : List Entry) (n : ℕ) → List·Memᴰ n (registeredIn es) → List·Memᴰ (entryOf registered n) es
+unfolding registeredIn
+registered-are [] n m = absurd (List·Memᴰ·not-nil m)
+registered-are (e ∷ es) n m = picked (e .event) refl m (λ h. List·Memᴰ·tail (registered-are es n h))
+  where
+    same : e .event ≡ registered → n ≡ e .full → entryOf registered n ≡ e
+    same v q = rw (q, ← v)
+
+    picked : (v : Event) → e .event ≡ v → List·Memᴰ n (withFull v (e .full) (registeredIn es))
+        → (List·Memᴰ n (registeredIn es) → List·Memᴰ (entryOf registered n) (e ∷ es)) → List·Memᴰ (entryOf registered n) (e ∷ es)
+    picked registered v h rest = ⊎-elim (λ q. List·Memᴰ·head (same v q)) rest (List·Memᴰ·cases-cons h)
+    picked (reported x rts) v h rest = rest h
