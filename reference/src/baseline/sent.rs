@@ -1,6 +1,6 @@
 //! Calls of a sender.
 
-use super::metric::{decoded, R};
+use super::metric::{fields, R};
 use super::packet::{self, be16, be32, Found, BEGIN_AT, RTS_OCTETS};
 use super::store::{admit, find, is_shaped, ring_of, stream, CELLS_OF_A_PLACE};
 use crate::calls::metric as kinds;
@@ -10,12 +10,11 @@ use std::slice;
 
 pub const BASELINE: SentCalls = SentCalls { register, take_in, status };
 
-/// What is known of a number is in the two lowest bits of its word. If it was received, the metric
-/// that says so and RTS of its packet are above them.
+/// What is known of a number is in the two lowest bits of its word; 2 is missing. If it was
+/// received, the metric that says so and RTS of its packet are above them.
 const KNOWN_MASK: u64 = 3;
 const NOT_REGISTERED: u64 = 0;
 const NOT_REPORTED: u64 = 1;
-const MISSING: u64 = 2;
 const RECEIVED: u64 = 3;
 const METRIC_SHIFT: u32 = 16;
 const RTS_SHIFT: u32 = 32;
@@ -112,7 +111,7 @@ fn enter(cells: &mut [u64], metrics: &[u8], received: u64) {
 
 #[inline]
 fn reported(word: u64, metric: u16, received: u64) -> u64 {
-    // NOT_REPORTED is the only one of the four with the lower bit alone; one more is MISSING.
+    // Only NOT_REPORTED has the lower bit alone; one more is missing.
     let missing = word + (word & !(word >> 1) & 1);
     let is_registered = (word | word >> 1) & 1;
     let taken = (is_registered & u64::from(metric >> R_SHIFT)).wrapping_neg();
@@ -147,22 +146,21 @@ unsafe extern "C" fn status(
         return NOT_SENT;
     }
     let word = cells[CELLS_OF_A_PLACE * k + usize::from(number) % CELLS_OF_A_PLACE];
-    *kind = match word & KNOWN_MASK {
-        NOT_REGISTERED => return NOT_SENT,
-        NOT_REPORTED => KIND_NOT_REPORTED,
-        MISSING => kinds::NOT_RECEIVED,
-        _ => received_status(word, mark, time),
-    };
-    0
-}
-
-/// The kind of a number that was received; writes its mark, and its time if the kind has one.
-#[inline]
-unsafe fn received_status(word: u64, mark: *mut u8, time: *mut u32) -> u8 {
-    let mut offset = 0;
-    let kind = decoded((word >> METRIC_SHIFT) as u16 | R, mark, &mut offset);
-    if kind == kinds::RECEIVED {
+    let known = word & KNOWN_MASK;
+    if known == NOT_REGISTERED {
+        return NOT_SENT;
+    }
+    if known != RECEIVED {
+        // By its bit: a test against each value would become a jump through a table.
+        let is_reported = known & NOT_REPORTED == 0;
+        *kind = if is_reported { kinds::NOT_RECEIVED } else { KIND_NOT_REPORTED };
+        return 0;
+    }
+    let (received_kind, received_mark, offset) = fields((word >> METRIC_SHIFT) as u16 | R);
+    *kind = received_kind;
+    *mark = received_mark;
+    if received_kind == kinds::RECEIVED {
         *time = ((word >> RTS_SHIFT) as u32).wrapping_sub(u32::from(offset) << OFFSET_SHIFT);
     }
-    kind
+    0
 }
