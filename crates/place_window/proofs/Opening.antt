@@ -1,4 +1,4 @@
--- The window that is opened with a word is the window that f makes, if f makes that word of an empty cell's. Assumes nothing.
+-- The window that is opened for a number, over any f and the word that f makes of 0. Assumes nothing.
 use Prim.Native.Nat.{ℕ, _+_, _*_, _<_, _≤_, min}
 use mathlib.Core.Path.{_≡_, _∙_}
 use mathlib.Core.List.{List}

@@ -1,4 +1,4 @@
--- What a cell's word is read as, and what a registration and a report make of it, by its kind. Assumes nothing.
+-- Reading a word, and changing it, by its kind. Assumes nothing.
 use Prim.Native.Nat.{ℕ, _<_, _≤_}
 use mathlib.Core.Path.{_≡_}
 use native.Mathlib.Omega.{arith}

@@ -1,4 +1,4 @@
--- The word of a cell after a registration or a report says what the rules make of what it said. Assumes nothing.
+-- What a registration and a report make of a word, as the rules have it. Assumes nothing.
 use Prim.Native.Nat.{ℕ, _+_, _*_, _/_, _%_, _<_, _≤_}
 use mathlib.Core.Path.{_≡_, refl, sym, ap, _∙_}
 use mathlib.Core.Bool.{Bool, true, false, cond}
