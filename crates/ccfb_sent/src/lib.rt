@@ -1,5 +1,5 @@
 // The calls for C of a sender: they register a sent number, take in a feedback packet, and say what is known of a number,
-// in a store that the caller lends.
+// in a store that the caller lends: the "board" of the customers.
 ghost use mathlib.Core.Path.{_≡_};
 ghost use mathlib.Core.List.{[], _∷_};
 ghost use Rattle.places.specs.After.{storeAfter};
