@@ -6,13 +6,13 @@ ghost use Rattle.ccfb_calls.specs.Called.{called, caseCalled};
 use metric::Metric;
 
 // The cases of a metric, as include/ccfb.h numbers them.
-const CASE_NOT_RECEIVED: u8 = 0;
+pub const CASE_NOT_RECEIVED: u8 = 0;
 
-const CASE_RECEIVED: u8 = 1;
+pub const CASE_RECEIVED: u8 = 1;
 
-const CASE_OVER_RANGE: u8 = 2;
+pub const CASE_OVER_RANGE: u8 = 2;
 
-const CASE_NO_TIME: u8 = 3;
+pub const CASE_NO_TIME: u8 = 3;
 
 // Writes the mark and the offset of a case, where it has them, and answers the number of the case.
 pub fn put_case(case: Metric, mark: &mut u8, offset: &mut u16) -> u8

@@ -9,21 +9,17 @@ ghost use Rattle.sent_feedback.specs.TakeIn.{cellsAfter, takenIn};
 ghost use Rattle.ccfb_calls.specs.Called.{called};
 ghost use Rattle.ccfb_sent.specs.Sent.{registrationRefusal, takingRefusal, registerCalled, takeInCalled};
 ghost use Rattle.ccfb_sent.specs.Sent.{kindNumber, markOr, timeOr, statusCalled};
+use ccfb_calls::CASE_NO_TIME;
+use ccfb_calls::CASE_NOT_RECEIVED;
+use ccfb_calls::CASE_OVER_RANGE;
+use ccfb_calls::CASE_RECEIVED;
 use sent_feedback::TakingIn;
 use sent_register::Registration;
 use sent_status::StatusAnswer;
 use sent_word::Status;
 
-// The kinds of status: those of a metric, and one for a number on which no feedback came yet.
-const NOT_RECEIVED: u8 = 0;
-
-const RECEIVED: u8 = 1;
-
-const OVER_RANGE: u8 = 2;
-
-const NO_TIME: u8 = 3;
-
-const NOT_REPORTED: u8 = 4;
+// The number of the one kind of status that no metric has: no feedback on the number came yet.
+const CASE_NOT_REPORTED: u8 = 4;
 
 // 0 for a number that was registered, else the number of the refusal.
 fn registration_refusal(answer: Registration) -> u8
@@ -52,20 +48,20 @@ fn put_status(s: Status, mark: &mut u8, time: &mut u32) -> u8
         ≡ called (kindNumber s) (markOr s (now (mark .entry)) ∷ timeOr s (now (time .entry)) ∷ []) ⌝ }
 {
     match s {
-        Status::NotReported => NOT_REPORTED,
-        Status::Missing => NOT_RECEIVED,
+        Status::NotReported => CASE_NOT_REPORTED,
+        Status::Missing => CASE_NOT_RECEIVED,
         Status::Received { mark: m, time: t } => {
             *mark = m;
             *time = t;
-            RECEIVED
+            CASE_RECEIVED
         }
         Status::OverRange { mark: m } => {
             *mark = m;
-            OVER_RANGE
+            CASE_OVER_RANGE
         }
         Status::NoTime { mark: m } => {
             *mark = m;
-            NO_TIME
+            CASE_NO_TIME
         }
     }
 }
