@@ -3,14 +3,13 @@ ghost use mathlib.Core.Path.{_≡_};
 ghost use Prim.Native.Nat.{_<_};
 ghost use Rattle.metric.specs.Metric.{ageOf, atoOfAge, markUnit};
 use metric::NO_TIME;
+use metric::OFFSET_UNIT;
 use metric::OVER_RANGE;
 
 // The longest age that has an offset, 8189/1024 s.
 const LONGEST_AGE: u32 = 524096;
 
-// An offset counts 64 units of time. An age of 2^31 or more counts as a time after RTS.
-const OFFSET_UNIT: u32 = 64;
-
+// An age of 2^31 or more counts as a time after RTS.
 pub const AFTER_RTS: u32 = 0x8000_0000;
 
 // How many values a u16 has: a cast of less loses nothing.

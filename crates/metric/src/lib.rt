@@ -12,6 +12,9 @@ pub const NO_TIME: u16 = 0x1FFF;
 
 pub const OVER_RANGE: u16 = 0x1FFE;
 
+// An offset counts 64 units of time.
+pub const OFFSET_UNIT: u32 = 64;
+
 // ECN-CE, the largest of the four marks.
 pub const CONGESTED: u8 = 3;
 

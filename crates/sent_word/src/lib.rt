@@ -3,6 +3,7 @@ ghost use mathlib.Core.Path.{_≡_};
 ghost use Rattle.sent_word.specs.Status.{arrivalTime, statusOf};
 ghost use Rattle.sent_word.specs.Word.{heldStatus, readWord, registeredWord, receivedWord, wordReported};
 use metric::Metric;
+use metric::OFFSET_UNIT;
 use metric::RECEIVED_BIT;
 use metric::TIMES;
 
@@ -37,9 +38,6 @@ const RECEIVED: u64 = 3;
 const METRIC_UNIT: u64 = 0x1_0000;
 
 const RTS_UNIT: u64 = 0x1_0000_0000;
-
-// How many units of time an offset counts.
-const OFFSET_UNIT: u32 = 64;
 
 // When a packet arrived, by its offset and RTS.
 fn arrival_time(rts: u32, offset: u16) -> u32
