@@ -1,13 +1,14 @@
 //! How the product's store of a sender reads, whatever its words are.
 //!
-//! Places and cells lie as those of the store of arrivals do (see `lent`). A cell's word stores what is known
-//! of its number:
+//! Places and cells lie as those of the store of arrivals do (see `lent`). A cell's word stores
+//! what is known of its number:
 //!
 //!     word % 4             0 not registered, 1 not reported yet, 2 missing, 3 received
 //!     word / 2^16 % 2^15   if received: the metric without R, its highest bit
 //!     word / 2^32          if received: RTS of the packet that reported it
 
 use crate::lent::held;
+use crate::metric::{decode, Metric};
 use crate::refusal::Refusal;
 use crate::sent::{Sent, Status, Stream};
 use crate::store::{wrapped, CELLS_OF_A_PLACE, WINDOW};
@@ -18,6 +19,14 @@ const METRICS_WITHOUT_R: u64 = 1 << 15;
 
 const METRIC_UNIT: u64 = 1 << 16;
 const RTS_UNIT: u64 = 1 << 32;
+
+/// The word of a number that was not received before, after a metric in a packet with that RTS.
+pub fn entered(metric: u16, rts: u32) -> u64 {
+    match decode(metric) {
+        Metric::NotReceived => 2,
+        _ => 3 + METRIC_UNIT * u64::from(metric) + RTS_UNIT * u64::from(rts),
+    }
+}
 
 /// The store in which the numbers of each held place's window are registered as their cells say,
 /// with one report each at most.

@@ -8,9 +8,11 @@ use super::store::next_number;
 use super::{Mismatch, Tally};
 use crate::calls::sent::SentCalls;
 use crate::calls::store::Words;
+use crate::metric::{decode, Metric};
 use crate::packet::{Block, Packet};
 use crate::refusal::Refusal;
 use crate::rng::{rounds, Rng};
+use crate::sent_words::entered;
 use crate::store::{wrapped, CELLS_OF_A_PLACE, MOST_PLACES};
 
 pub fn run(calls: &SentCalls, tally: &mut Tally) -> Result<(), Mismatch> {
@@ -67,7 +69,10 @@ fn edges(calls: &SentCalls, tally: &mut Tally) -> Result<(), Mismatch> {
     Ok(())
 }
 
-/// Every metric as a report on a number of each status.
+/// RTS of the reports before.
+const RTS_BEFORE: u32 = 7;
+
+/// Every metric as a report on a number of each status. Here the words themselves are compared.
 fn every_metric(calls: &SentCalls, tally: &mut Tally) -> Result<(), Mismatch> {
     let mut rng = Rng::of_case(tally.seed, 1);
     let window = CELLS_OF_A_PLACE as u16;
@@ -77,14 +82,27 @@ fn every_metric(calls: &SentCalls, tally: &mut Tally) -> Result<(), Mismatch> {
             let mut pair = whole_window(calls, tally, first.wrapping_sub(1))?;
             let begin = first.wrapping_sub(window);
             if let Some(metric) = before {
-                pair.answer(tally, &packet(7, begin, vec![metric; CELLS_OF_A_PLACE]))?;
+                let reports = vec![metric; CELLS_OF_A_PLACE];
+                pair.answer(tally, &packet(RTS_BEFORE, begin, reports))?;
             }
             let rts = [rng.u32(), 0, 63, 524_095, u32::MAX][i];
-            let metrics = (0..window).map(|above| first + above).collect();
-            pair.call_closely(tally, &mut rng, &packet(rts, begin, metrics))?;
+            let metrics: Vec<u16> = (0..window).map(|above| first + above).collect();
+            pair.call_closely(tally, &mut rng, &packet(rts, begin, metrics.clone()))?;
+            let words: Vec<u64> =
+                metrics.iter().map(|metric| word_after(before, *metric, rts)).collect();
+            tally.same(&("words", before, first, rts), &pair.words.cells, &words)?;
         }
     }
     Ok(())
+}
+
+/// The word of a number after a report with RTS_BEFORE, or none, and then this one.
+fn word_after(before: Option<u16>, metric: u16, rts: u32) -> u64 {
+    let is_received = |metric: u16| decode(metric) != Metric::NotReceived;
+    match before {
+        Some(before) if is_received(before) && !is_received(metric) => entered(before, RTS_BEFORE),
+        _ => entered(metric, rts),
+    }
 }
 
 /// Every call refuses every wrong shape with 4, before any other refusal, and changes no word.
