@@ -6,6 +6,7 @@ use crate::baseline::sent::BASELINE;
 use crate::calls::sent::SentCalls;
 use crate::calls::store::Words;
 use crate::packet::{Block, Packet};
+use crate::rng::{Rng, USUAL_SEED};
 use crate::store::{CELLS_OF_A_PLACE, MOST_PLACES};
 use std::hint::black_box;
 
@@ -29,6 +30,7 @@ pub fn rows() -> Vec<Row> {
         registrations("register in order, 16 streams in turn", MOST_PLACES, &in_turn),
         take_in((1, 590)),
         take_in((16, 36)),
+        take_in_after_reports((1, 590)),
         status("status of a number, 1 stream", (1, 590)),
         status("status of a number, 16 streams", (16, 36)),
     ]
@@ -75,14 +77,46 @@ fn take_in((blocks, count): (u32, u16)) -> Row {
     })
 }
 
+/// The same packet into as many stores, in each of which it meets random numbers that were reported
+/// before: no pattern of what is known can be learnt.
+fn take_in_after_reports((blocks, count): (u32, u16)) -> Row {
+    let packet = packet_of((blocks, count));
+    let octets = packet.octets();
+    let steps = TIMES * blocks as usize * usize::from(count);
+    let name = format!("take in {blocks} of {count}, half reported");
+    let mut rng = Rng::of_case(USUAL_SEED, 1);
+    let prepare = |calls| -> Vec<Words> {
+        let store = registered(calls, &packet);
+        let mut stores = vec![store; TIMES];
+        for words in &mut stores {
+            calls.take_in(words, &half_missing(&mut rng, &packet)).expect("a good packet");
+        }
+        stores
+    };
+    row(&name, (SentCalls::product(), BASELINE), steps, prepare, |calls, stores| {
+        for words in stores {
+            assert_eq!(calls.take_in(words, &octets), Ok(()));
+        }
+    })
+}
+
+/// A packet that says of about half of the numbers of another that they are missing.
+fn half_missing(rng: &mut Rng, packet: &Packet) -> Vec<u8> {
+    let numbers = packet.blocks.iter().flat_map(numbers_of).filter(|_| rng.one_in(2));
+    let blocks = numbers.map(|(ssrc, begin)| Block { ssrc, begin, metrics: vec![0] }).collect();
+    Packet { sender: 1, rts: 1, blocks }.octets()
+}
+
+/// The numbers of a block.
+fn numbers_of(block: &Block) -> Vec<Number> {
+    let number = |j| block.begin.wrapping_add(j as u16);
+    (0..block.metrics.len()).map(|j| (block.ssrc, number(j))).collect()
+}
+
 /// Asks for each number of a packet that was taken in.
 fn status(name: &str, shape: (u32, u16)) -> Row {
     let packet = packet_of(shape);
-    let range = |block: &Block| -> Vec<Number> {
-        let number = |j| block.begin.wrapping_add(j as u16);
-        (0..block.metrics.len()).map(|j| (block.ssrc, number(j))).collect()
-    };
-    let numbers: Vec<Number> = packet.blocks.iter().flat_map(range).collect();
+    let numbers: Vec<Number> = packet.blocks.iter().flat_map(numbers_of).collect();
     let prepare = |calls: SentCalls| {
         let mut words = registered(calls, &packet);
         calls.take_in(&mut words, &packet.octets()).expect("a good packet");
