@@ -11,20 +11,24 @@ use Rattle.sent_word.proofs.word_reported.Tie as tie
 returns : tie.Need-returns
 returns c =
     let chosen = c .before in
-    let arrived = chosen .before .received-word in
-    let lost = chosen .before .before in
-    let word = lost .before .args .word in
-    let known : kindOf word ≡ notRegistered → ⊥ = λ e. omega (arith, c .if3 .taken) in
+    let later = chosen .before in
+    let first = later .before in
+    let arrived = first .before .received-word in
+    let word = first .before .before .args .word in
+    let known : kindOf word ≡ notRegistered → ⊥ = λ e. omega (arith, c .if4 .taken) in
     ⊎-elim
-    (λ m. m .1 ∙ ⊎-elim
-    (λ k. k .1 ∙ sym (reported-missing _ _ _ known (m .0 .taken) (k .0 .taken)))
-    (λ k. k .1 ∙ sym (reported-kept _ _ _ known (m .0 .taken) (k .0 .left)))
-    (lost .if1 .came))
+    (λ k. k .1 ∙ ⊎-elim
+    (λ m. m .1 ∙ sym (reported-missing _ _ _ known (m .0 .taken) (k .0 .taken)))
     (λ m. m .1 ∙ arrived .ensures ∙ sym (reported-received _ _ _ known (m .0 .left)))
-    (chosen .if2 .came)
+    (first .if1 .came))
+    (λ k. k .1 ∙ ⊎-elim
+    (λ m. m .1 ∙ sym (reported-kept _ _ _ known (m .0 .taken) (k .0 .left)))
+    (λ m. m .1 ∙ arrived .ensures ∙ sym (reported-received _ _ _ known (m .0 .left)))
+    (later .if2 .came))
+    (chosen .if3 .came)
 
 returns-2 : tie.Need-returns-2
-returns-2 c = sym (reported-none _ _ _ (omega (arith, c .if3 .left)))
+returns-2 c = sym (reported-none _ _ _ (omega (arith, c .if4 .left)))
 
 pub word-reported-spec : {M : Type 1} → statement M
 word-reported-spec = tie.close (tie.spec (λ c κs. search needs) returns returns-2)
