@@ -376,8 +376,10 @@ uint8_t ccfb_next_packet(const uint8_t *datagram, size_t len, size_t *at, uint8_
 
 /* ---- What became of sent packets: two arrays that the sender owns, zeroed at the start
  *
- * places and cells have the shape of a store of arrivals, but other words in the cells: keep the
- * two apart. Of each stream the 2,048 numbers up to the highest registered one are known. */
+ * places and cells have the shape of a store of arrivals, but other words in the cells: a program
+ * that sends and receives has a pair of arrays for each. Of each stream the 2,048 numbers up to
+ * the highest registered one are known. If one thread registers and another takes in, guard both,
+ * and ccfb_status, by one lock. A stream keeps its place until its word in places is set to 0. */
 
 /* The kinds of status: those of a metric, CCFB_NOT_RECEIVED to CCFB_NO_TIME, and this one. */
 #define CCFB_NOT_REPORTED 4 /* no feedback on it yet; neither a mark nor a time */
@@ -405,10 +407,12 @@ uint8_t ccfb_register(uint64_t *places, size_t places_len, uint64_t *cells, size
  * registered and in the window of its stream. Other numbers, and streams that were never
  * registered, are passed over.
  *
- * "Received" stays: "not received" never replaces it, and a later "received" does. So a packet may
- * come twice, and feedback may be lost.
+ * "Not received" never replaces "received". Of several packets that report a number as received,
+ * the one that is taken in last decides mark and time, even if it is the older one. Who sent the
+ * packet is not looked at: if several receivers report, have a pair of arrays for each.
  *
- *   packet, len   any octets; the packet is checked to its end before anything is changed
+ *   packet, len   one CCFB packet, as ccfb_feedback or ccfb_next_packet finds it in a datagram;
+ *                 any octets are safe, and they are checked to their end before anything changes
  *
  * Returns 0, or the first of these that applies; nothing is changed then:
  *   CCFB_BAD_STORE   the lengths are not those of a store
@@ -420,13 +424,13 @@ uint8_t ccfb_take_in(const uint64_t *places, size_t places_len, uint64_t *cells,
 /*
  * What is known of a sequence number that was sent.
  *
- *   kind   CCFB_NOT_REPORTED    no feedback on it came yet
- *          CCFB_NOT_RECEIVED    it was reported as not received, and never as received
- *          CCFB_RECEIVED, CCFB_OVER_RANGE, CCFB_NO_TIME: as the last feedback that had it
- *          received says
- *   mark   the ECN mark; written if it was received: CCFB_RECEIVED, CCFB_OVER_RANGE, CCFB_NO_TIME
- *   time   when it arrived, by the receiver's clock, in 1/65536 s modulo 2^32: RTS of that
- *          feedback less the arrival time offset; written if the kind is CCFB_RECEIVED
+ *   kind   CCFB_NOT_REPORTED   no feedback on it came yet
+ *          CCFB_NOT_RECEIVED   it was reported as not received, and never as received
+ *          CCFB_RECEIVED, CCFB_OVER_RANGE, CCFB_NO_TIME   it was received; kind, mark and time
+ *                              are by the packet taken in last that reported it as received
+ *   mark   the ECN mark; written if it was received
+ *   time   when it arrived, by the receiver's clock, in 1/65536 s modulo 2^32: RTS of that packet
+ *          minus 64 times the offset; written if the kind is CCFB_RECEIVED
  *
  * Returns 0, or the first of these that applies; nothing is written then:
  *   CCFB_BAD_STORE        the lengths are not those of a store
