@@ -57,7 +57,7 @@ static bool one_in(unsigned many)
 }
 
 /* Packets on the way to the receiver; each may have a copy. */
-static struct media {
+static struct media_packet {
     unsigned due; /* ms */
     uint16_t number;
     uint8_t mark;
@@ -66,7 +66,7 @@ static size_t media_count;
 
 static void put_media(unsigned delay, uint16_t number, uint8_t mark)
 {
-    struct media *m = &media[media_count++];
+    struct media_packet *m = &media[media_count++];
     m->due = now + delay;
     m->number = number;
     m->mark = mark;
@@ -86,7 +86,7 @@ static void send_media(uint16_t number)
 }
 
 /* Feedback packets on the way to the camera. */
-static struct feedback {
+static struct feedback_packet {
     unsigned due; /* ms */
     bool again;   /* this is a copy */
     size_t len;
@@ -96,7 +96,7 @@ static size_t feedback_count;
 
 static void put_feedback(unsigned delay, bool again, const uint8_t *packet, size_t len)
 {
-    struct feedback *f = &feedback[feedback_count++];
+    struct feedback_packet *f = &feedback[feedback_count++];
     f->due = now + delay;
     f->again = again;
     f->len = len;
@@ -109,7 +109,7 @@ static void send_feedback(const uint8_t *packet, size_t len)
     static unsigned packets;
     packets++;
     if (packets == LOST)
-        printf("  %4u ms  (a feedback packet is lost)\n", now);
+        printf("  %4u ms  (a feedback packet is lost: the camera cannot see that)\n", now);
     else
         put_feedback(DELAY, false, packet, len);
     if (packets == COPIED)
@@ -126,7 +126,7 @@ static struct ccfb_request told[PLACES];
 
 static void receive_all(void)
 {
-    for (const struct media *m = media; m < media + media_count; m++)
+    for (const struct media_packet *m = media; m < media + media_count; m++)
         if (m->due == now)
             accepted(ccfb_arrive(places, PLACES, cells, CCFB_CELLS(PLACES), CAMERA, m->number,
                                  m->mark, true, count_of(now)),
@@ -134,8 +134,8 @@ static void receive_all(void)
 }
 
 /*
- * The next request for the stream of place k: the numbers since the last report, and up to AGAIN of
- * that one, of which some may have come late. The first report starts at the oldest number that
+ * The next request for the stream of place k: the numbers since the last report, and up to AGAIN
+ * of that one, of which some may have come late. The first report starts at the oldest number that
  * arrived: those from before it were not lost. false: the place is free.
  */
 static bool next_request(size_t k, struct ccfb_request *request)
@@ -207,6 +207,7 @@ static uint8_t ask(uint16_t number, uint8_t *kind, uint8_t *mark, uint32_t *time
     return ccfb_status(sent_places, 1, sent_cells, CCFB_CELLS(1), CAMERA, number, kind, mark, time);
 }
 
+/* Both ends have one clock here, so that a delay comes out. With two, only its changes count. */
 static void update(unsigned i)
 {
     uint32_t time = 0;
@@ -244,16 +245,17 @@ static void print_news(void)
 static void print_kept(const uint8_t *packet, size_t len)
 {
     uint16_t number, offset;
-    uint8_t kind, mark;
+    uint8_t kind, known_kind, mark;
     uint32_t time;
     for (size_t j = 0; ccfb_metric(packet, len, 0, j, &number, &kind, &mark, &offset) == 0; j++)
-        if (kind == CCFB_NOT_RECEIVED && ask(number, &kind, &mark, &time) == 0 && is_received(kind))
+        if (kind == CCFB_NOT_RECEIVED && ask(number, &known_kind, &mark, &time) == 0 &&
+            is_received(known_kind))
             printf("; seq %u stays received", number);
 }
 
 static void take_in_all(void)
 {
-    for (const struct feedback *f = feedback; f < feedback + feedback_count; f++) {
+    for (const struct feedback_packet *f = feedback; f < feedback + feedback_count; f++) {
         if (f->due != now ||
             !accepted(ccfb_take_in(sent_places, 1, sent_cells, CCFB_CELLS(1), f->octets, f->len),
                       "camera"))
@@ -292,7 +294,7 @@ static void print_range(unsigned from, unsigned to)
     printf("  seq %5u", number_of(from));
     if (to - from > 1)
         printf(" to %5u", number_of(to - 1));
-    printf("%*s%s", to - from > 1 ? 2 : 11, "", name_of(known[from].kind));
+    printf("%*s%s", to - from > 1 ? 2 : 11, "", name_of(known[from].kind)); /* in one column */
     if (known[from].kind == CCFB_RECEIVED && shortest < longest)
         printf(", delay %u to %u ms", shortest, longest);
     else if (known[from].kind == CCFB_RECEIVED)
@@ -320,7 +322,7 @@ static void print_packets(void)
 
 int main(void)
 {
-    printf("The camera learns, as feedback comes:\n");
+    printf("New to the camera, as each feedback packet comes:\n");
     for (now = 0; now < RUN; now++) {
         if (now % PACKET_EVERY == 0)
             send_packet();
@@ -329,7 +331,8 @@ int main(void)
             report();
         take_in_all();
     }
-    printf("What became of the packets:\n");
+    printf("What became of the packets (those not reported were in the lost feedback, or were sent\n"
+           "after the last report):\n");
     print_packets();
     return EXIT_SUCCESS;
 }

@@ -6,7 +6,7 @@
 //! The standard library does not tell the ECN field of a datagram: here it counts as not-ECT.
 //! examples/wire.c, beside this crate, takes it and the time of arrival from the kernel.
 
-use ccfb::{ntp_time, Datagram, Mark, Report, Reporter, RtcpPacket};
+use ccfb::{ntp_time, Datagram, Mark, Refusal, Report, Reporter, RtcpPacket};
 use ccfb::{SentPackets, Status, Store, Time};
 use std::error::Error;
 use std::io::{self, ErrorKind};
@@ -123,13 +123,16 @@ impl Camera {
     }
 
     /// Prints what is known of the packets that were sent since the start.
-    fn print_sent(&self) {
+    fn print_sent(&self) -> Result<(), Refusal> {
         let count = self.next.wrapping_sub(FIRST_NUMBER);
         let numbers = (0..count).map(|i| FIRST_NUMBER.wrapping_add(i));
-        let known: Vec<_> = numbers.flat_map(|n| self.sent.status(CAMERA, n)).collect();
+        let known: Vec<_> =
+            numbers.map(|n| self.sent.status(CAMERA, n)).collect::<Result<_, _>>()?;
         let received = known.iter().filter(|status| status.is_received()).count();
         let missing = known.iter().filter(|status| **status == Status::Missing).count();
-        println!("{count} sent: {received} received, {missing} missing");
+        let others = known.len() - received - missing;
+        println!("{count} sent: {received} received, {missing} missing, {others} not reported");
+        Ok(())
     }
 }
 
@@ -151,7 +154,7 @@ fn main() -> Result<(), Box<dyn Error>> {
         if (i + 1) % PACKETS_OF_A_REPORT == 0 {
             receiver.report()?;
             camera.take_in_all()?;
-            camera.print_sent();
+            camera.print_sent()?;
         }
     }
     Ok(())

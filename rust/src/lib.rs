@@ -4,8 +4,8 @@
 //! - A receiver records what arrives in a [`Store`]. For each report a [`Reporter`] makes the
 //!   requests, and the store [writes](StoreOver::write) the packets.
 //! - A sender registers what it sends in [`SentPackets`], takes in the feedback of each received
-//!   [`Datagram`], and asks what became of a packet. To see what a single report says, it reads the
-//!   feedback as [`Packet`]s.
+//!   [`Datagram`], and asks what became of a packet. To see what a single report says, it reads
+//!   the feedback as [`Packet`]s.
 //!
 //! ```
 //! use ccfb::{Datagram, Mark, Refusal, Report, Reporter, RtcpPacket};
@@ -71,7 +71,8 @@
 //! - `std` (default): times from [`SystemTime`](std::time::SystemTime). Implies `alloc`.
 //! - `alloc`: [`Store`] and [`SentPackets`], which own their memory.
 //!
-//! Without them the crate is `no_std` and allocates nothing: use [`StoreIn`] and [`SentPacketsIn`].
+//! Without them the crate is `no_std` and allocates nothing: use [`StoreIn`] and
+//! [`SentPacketsIn`].
 //!
 //! # Linking
 //!

@@ -70,7 +70,8 @@ impl fmt::Display for Mark {
 }
 
 /// The kinds of metric as numbers, as [`Block::decode_metrics`](crate::Block::decode_metrics)
-/// writes them, and one more of a [`Status`](crate::Status), which only C has as a number.
+/// writes them, and that of a [`Status`](crate::Status) which no metric has, as `ccfb_status` in C
+/// gives it.
 pub mod kind {
     /// [`Metric::NotReceived`](crate::Metric::NotReceived).
     pub const NOT_RECEIVED: u8 = 0;

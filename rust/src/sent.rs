@@ -65,7 +65,7 @@ pub type SentPacketsIn<'a> = SentPacketsOver<Borrowed<'a>>;
 /// impl Camera {
 ///     fn send(&mut self) -> Result<(), Refusal> {
 ///         self.sent.register(self.ssrc, self.next)?;
-///         // The socket's turn.
+///         // Here the packet is sent.
 ///         self.next = self.next.wrapping_add(1);
 ///         Ok(())
 ///     }
@@ -99,7 +99,8 @@ pub type SentPacketsIn<'a> = SentPacketsOver<Borrowed<'a>>;
 /// ```
 ///
 /// `SentPackets` owns its memory, and [`SentPacketsIn`] borrows it. Each place for a stream takes
-/// 16 KiB and 8 octets. A stream keeps its place: there is no forgetting.
+/// 16 KiB and 8 octets. A stream keeps its place: to have places again, start with new memory. If
+/// several receivers report on a stream, have one for each of them.
 #[derive(Clone)]
 pub struct SentPacketsOver<M> {
     memory: M,
@@ -164,7 +165,8 @@ impl<M: Memory> SentPacketsOver<M> {
 
     /// Takes in a feedback packet, a CCFB packet by itself; [`Datagram`](crate::Datagram) finds
     /// those of a datagram. Packets may be lost, come twice or in another order: "missing" never
-    /// replaces "received", and another "received" does.
+    /// replaces "received", and another "received" does. So the packet that is taken in last decides
+    /// mark and time, even if it is the older one.
     ///
     /// What the packet says of other streams, and of numbers that are not registered or no longer
     /// in the window, is passed over.

@@ -30,18 +30,18 @@ pub enum Status {
     Received {
         /// The mark in the last feedback that says "received".
         mark: Mark,
-        /// When it arrived, by the receiver's clock: a count of 1/65536 s modulo 2^32, that is RTS
-        /// minus the arrival time offset, which counts 1/1024 s.
+        /// When it arrived, by the receiver's clock: a count of 1/65536 s modulo 2^32, RTS minus 64
+        /// times the arrival time offset. It is exact to 1/1024 s.
         time: u32,
     },
     /// It was received, longer before RTS than an offset can say.
     OverRange {
-        /// As above.
+        /// The mark in the last feedback that says "received".
         mark: Mark,
     },
     /// It was received at a time that the receiver does not know, or after RTS.
     NoTime {
-        /// As above.
+        /// The mark in the last feedback that says "received".
         mark: Mark,
     },
 }
@@ -76,8 +76,9 @@ impl Status {
         }
     }
 
-    /// When it arrived, if that is known. Two arrivals are as far apart as their `wrapping_sub`
-    /// says. Where the sender's clock is not the receiver's, only such differences mean anything.
+    /// When it arrived, if that is known. `later.wrapping_sub(earlier) as i32` is how far two
+    /// arrivals are apart, and negative if they arrived the other way round. Where the sender's
+    /// clock is not the receiver's, only such differences mean anything.
     ///
     /// ```
     /// use ccfb::{Mark, Status};
@@ -85,7 +86,8 @@ impl Status {
     /// let mark = Mark::Ect1;
     /// let earlier = Status::Received { mark, time: 0xffff_ffc0 }.time().expect("a time");
     /// let later = Status::Received { mark, time: 0x0000_0040 }.time().expect("a time");
-    /// assert_eq!(later.wrapping_sub(earlier), 128); // 1/512 s
+    /// assert_eq!(later.wrapping_sub(earlier) as i32, 128); // 1/512 s
+    /// assert_eq!(earlier.wrapping_sub(later) as i32, -128);
     /// assert_eq!(Status::NoTime { mark }.time(), None);
     /// ```
     pub fn time(self) -> Option<u32> {

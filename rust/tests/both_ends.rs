@@ -19,12 +19,12 @@ const STEP: u32 = 655;
 
 /// What the link did with a packet.
 #[derive(Clone, Copy, Default)]
-struct Fate {
+struct Outcome {
     /// When the first copy arrived.
     arrived: Option<u32>,
     congested: bool,
     /// A report since the arrival has named it, and the camera took that in.
-    told: bool,
+    reported: bool,
     /// A report that the camera took in has named it.
     named: bool,
 }
@@ -34,7 +34,7 @@ struct Link {
     camera: SentPackets<1>,
     store: Store<1>,
     reporter: Reporter,
-    fates: Vec<Fate>,
+    outcomes: Vec<Outcome>,
     /// Packets on the way, by index, and feedback on the way.
     media: Vec<usize>,
     feedback: Vec<Feedback>,
@@ -58,16 +58,16 @@ impl Link {
             camera: SentPackets::new(),
             store: Store::new(),
             reporter: Reporter::new(OVERLAP),
-            fates: Vec::new(),
+            outcomes: Vec::new(),
             media: Vec::new(),
             feedback: Vec::new(),
         }
     }
 
     fn send(&mut self) {
-        let index = self.fates.len();
+        let index = self.outcomes.len();
         self.camera.register(CAMERA, number_of(index)).expect("a new number");
-        self.fates.push(Fate::default());
+        self.outcomes.push(Outcome::default());
         if !self.random.one_in(20) {
             self.media.push(index);
         }
@@ -81,9 +81,9 @@ impl Link {
                 if self.random.one_in(9) { self.media[at] } else { self.media.swap_remove(at) };
             let mark = if self.random.one_in(10) { Mark::Ce } else { Mark::Ect1 };
             if self.store.arrive(CAMERA, number_of(index), mark, Time::At(now)).is_ok() {
-                let fate = &mut self.fates[index];
-                fate.arrived.get_or_insert(now);
-                fate.congested |= mark == Mark::Ce;
+                let outcome = &mut self.outcomes[index];
+                outcome.arrived.get_or_insert(now);
+                outcome.congested |= mark == Mark::Ce;
             }
         }
     }
@@ -96,7 +96,7 @@ impl Link {
             let packet = Packet::read(octets).expect("written");
             let numbers = packet.blocks().flat_map(|block| block.metrics());
             let indices = numbers.map(|(n, _)| usize::from(n.wrapping_sub(FIRST_NUMBER)));
-            let named = indices.map(|i| (i, self.fates[i].arrived.is_some())).collect();
+            let named = indices.map(|i| (i, self.outcomes[i].arrived.is_some())).collect();
             self.feedback.push(Feedback { octets: octets.to_vec(), named });
         }
         self.reporter.reported(&requests);
@@ -114,21 +114,21 @@ impl Link {
             }
             self.camera.take_in(&feedback.octets).expect("written");
             for (index, arrived) in feedback.named {
-                self.fates[index].named = true;
-                self.fates[index].told |= arrived;
+                self.outcomes[index].named = true;
+                self.outcomes[index].reported |= arrived;
             }
         }
     }
 
-    /// What the camera knows of a packet is true, and it knows what it was told.
+    /// What the camera knows of a packet is true, and it knows what was reported.
     fn check(&self, index: usize) {
-        let fate = self.fates[index];
+        let outcome = self.outcomes[index];
         let status = self.camera.status(CAMERA, number_of(index)).expect("registered");
-        assert_eq!(status.is_received(), fate.told, "{index}: {status}");
-        assert_eq!(status == Status::NotReported, !fate.named, "{index}: {status}");
-        assert!(status.mark() != Some(Mark::Ce) || fate.congested, "{index}: {status}");
+        assert_eq!(status.is_received(), outcome.reported, "{index}: {status}");
+        assert_eq!(status == Status::NotReported, !outcome.named, "{index}: {status}");
+        assert!(status.mark() != Some(Mark::Ce) || outcome.congested, "{index}: {status}");
         if let Some(time) = status.time() {
-            let arrived = fate.arrived.expect("received only what arrived");
+            let arrived = outcome.arrived.expect("received only what arrived");
             assert!(time.wrapping_sub(arrived) < 64, "{index}: {status}, not {arrived}");
         }
     }
@@ -151,7 +151,7 @@ fn the_camera_knows_what_happened() {
             }
         }
         (0..PACKETS).for_each(|index| link.check(index));
-        let received = link.fates.iter().filter(|fate| fate.told).count();
+        let received = link.outcomes.iter().filter(|outcome| outcome.reported).count();
         assert!(received > PACKETS / 2, "{received} received");
     }
 }
