@@ -11,9 +11,9 @@ use Rattle.places.specs.Shape.{Shaped, Misshapen}
 use Rattle.places.specs.Held.{Unheld, HeldAt}
 use Rattle.places.specs.After.{StoreAfter}
 use Rattle.place_window.specs.Window.{cellAt}
-use Rattle.packet.specs.Packet.{Packet}
-use Rattle.reader.specs.Reading.{packet, refused, decodePacket}
-use Rattle.packet_laws.specs.Refused.{ReadingGiven, readerNumbers}
+use Rattle.packet.specs.Sizes.{packetHeaderOctets}
+use Rattle.walk.specs.Walk.{rtsAt}
+use Rattle.packet_laws.specs.Refused.{Sound, Walks, ReadingGiven, readerNumbers}
 use Rattle.place_window.specs.Given.{AdmissionGiven}
 use Rattle.sent_word.specs.Word.{readWord}
 use Rattle.sent_word.specs.declared.Status.{Status}
@@ -45,17 +45,13 @@ pub data StatusGiven (places cells : List ℕ) (ssrc number : ℕ) : StatusAnswe
   known : Shaped places cells → (p high : ℕ) → HeldAt places ssrc p high → distanceOf high number < cellsOfAPlace → (s : Status)
       → readWord (cellAt cells p number) ≡ sent.Registered s → StatusGiven places cells ssrc number (answer.Known s)
 
--- taking in: 4, then the reader's. A refused packet leaves the cells as they were
+-- taking in: 4, then the reader's. A refused packet leaves the cells as they were; a packet is taken
+-- in if its header is sound and sound blocks fill the room up to RTS
 pub data TakingGiven (places cells s : List ℕ) : CellsAfter TakingIn → Type 0 where
   badStore : Misshapen places cells → TakingGiven places cells s (cellsAfter (taking.Refused BadStore) cells)
-  notRead : Shaped places cells → (e : Refusal) → decodePacket s ≡ refused e → TakingGiven places cells s (cellsAfter (taking.Refused e) cells)
-  taken : Shaped places cells → (p : Packet) → decodePacket s ≡ packet p → (cells′ : List ℕ)
+  notRead : Shaped places cells → (e : Refusal) → ReadingGiven s e → TakingGiven places cells s (cellsAfter (taking.Refused e) cells)
+  taken : Shaped places cells → Sound s → Walks s packetHeaderOctets (rtsAt s) → (cells′ : List ℕ)
       → TakingGiven places cells s (cellsAfter taking.Taken cells′)
-
--- its refusals in the words of the rules about packets
-pub data TakingRefused (places cells s : List ℕ) : Refusal → Type 0 where
-  badStore : Misshapen places cells → TakingRefused places cells s BadStore
-  reader : {e : Refusal} → Shaped places cells → ReadingGiven s e → TakingRefused places cells s e
 
 -- ---- the numbers that can come
 
