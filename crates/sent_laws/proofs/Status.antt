@@ -16,23 +16,19 @@ use Rattle.places.specs.Shape.{Shaped}
 use Rattle.places.specs.Held.{HeldAt}
 use Rattle.places.proofs.Shape.{right, wrong, Shape, shaped-is, misshapen-is, shape-of}
 use Rattle.places.proofs.Held.{found-held, held-found, unheld-lost, lost-unheld}
-use Rattle.place_window.specs.Window.{cellIndex, cellAt}
+use Rattle.place_window.specs.Window.{cellAt}
 use Rattle.packet_laws.specs.Refused.{OneOf}
 use Rattle.sent_word.specs.Word.{readWord}
 use Rattle.sent_word.specs.declared.Sent.{Sent}
 use Rattle.sent_status.specs.Status.{answerOf, statusAt, askedAt, statusAsked}
 use Rattle.sent_status.specs.declared.StatusAnswer.{StatusAnswer}
-use Rattle.sent_status.proofs.Calls.{status-outside, status-within}
+use Rattle.sent_status.proofs.Calls.{status-past, status-within}
 use Rattle.sent_laws.specs.Given.{StatusGiven, statusNumbers}
 use Rattle.sent_laws.proofs.Numbers.{same-number}
 use Rattle.lists.specs.declared.Found.the-variants.{At, Nothing}
 use Rattle.refusal.specs.declared.Refusal.the-variants.{BadStore, NotHeld, NotRegistered}
 use Rattle.sent_word.specs.declared.Sent.the-variants as sent
 use Rattle.sent_status.specs.declared.StatusAnswer.the-variants.{Refused}
-
--- a number that is b behind the highest one, b less than 2,048
-status-inside : (cells : List ℕ) (p number b : ℕ) → b < cellsOfAPlace → answerOf (readWord (cellAt cells p number)) ≡ statusAt cells p number b
-status-inside cells p number b l = status-within cells p number b (cellIndex p number) _ _ l refl refl refl
 
 module _ (places cells : List ℕ) (ssrc number : ℕ) where
   -- of a stream that is held, the answer goes by how far the number is behind its highest one
@@ -45,11 +41,11 @@ module _ (places cells : List ℕ) (ssrc number : ℕ) where
   status-only a (StatusGiven.badStore m) = rw (misshapen-is places cells m)
   status-only a (StatusGiven.notHeld s n) = rw (shaped-is places cells s, unheld-lost places ssrc n)
   status-only a (StatusGiven.outside s p high K l) =
-      rw (held-status s p high K) (status-outside cells p number (distanceOf high number) (omega arith))
+      rw (held-status s p high K, status-past cells p number (distanceOf high number) (omega arith))
   status-only a (StatusGiven.notRegistered s p high K l e) =
-      rw (held-status s p high K, ← status-inside cells p number (distanceOf high number) (omega arith), e)
+      rw (held-status s p high K, status-within cells p number (distanceOf high number) (omega arith), e)
   status-only a (StatusGiven.known s p high K l x e) =
-      rw (held-status s p high K, ← status-inside cells p number (distanceOf high number) (omega arith), e)
+      rw (held-status s p high K, status-within cells p number (distanceOf high number) (omega arith), e)
 
   module _ (s : Shaped places cells) where
     word-given : (p high : ℕ) → HeldAt places ssrc p high → distanceOf high number < cellsOfAPlace
@@ -60,8 +56,8 @@ module _ (places cells : List ℕ) (ssrc number : ℕ) where
     held-given : (p high : ℕ) → HeldAt places ssrc p high → StatusGiven places cells ssrc number (statusAt cells p number (distanceOf high number))
     held-given p high K =
         split-le cellsOfAPlace (distanceOf high number)
-        (λ l. rw (← status-outside cells p number (distanceOf high number) l) (StatusGiven.outside s p high K (omega arith)))
-        (λ l. rw (← status-inside cells p number (distanceOf high number) l) (word-given p high K (omega arith) (readWord (cellAt cells p number)) refl))
+        (λ l. rw (status-past cells p number (distanceOf high number) l) (StatusGiven.outside s p high K (omega arith)))
+        (λ l. rw (status-within cells p number (distanceOf high number) l) (word-given p high K (omega arith) (readWord (cellAt cells p number)) refl))
 
     found-given : (g : Found) → findOf places ssrc ≡ g → StatusGiven places cells ssrc number (askedAt g places cells number)
     found-given (At p) f = held-given p (highestAt places p) (found-held places ssrc p f)
