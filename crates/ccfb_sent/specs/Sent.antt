@@ -32,7 +32,7 @@ registerCalled o = storeAfter (registrationRefusal (o .answer)) (o .places) (o .
 abbrev pub takeInCalled : CellsAfter TakingIn → CellsAfter ℕ
 takeInCalled o = cellsAfter (takingRefusal (o .answer)) (o .cells)
 
--- the number of a status's kind: that of a metric's case (`caseNumber` of metric), or 4
+-- the number of a status's kind: that of the metric's case (`kind-of` in proofs/KindNumber.antt), or 4 where there is none
 abbrev pub kindNumber : Status → ℕ
 kindNumber Missing = 0
 kindNumber (Received mark time) = 1
