@@ -22,12 +22,12 @@ use Rattle.lists.specs.declared.Found.the-variants.{At, Nothing}
 use Rattle.window.specs.declared.Move.the-variants as move
 
 -- ---- how a number moves a window
-pub data Moved (high number : ℕ) : Type 0 where
+data Moved (high number : ℕ) : Type 0 where
   ahead : moveOf high number ≡ move.Ahead (distanceOf number high) → (Old high number → ⊥) → Moved high number
   within : moveOf high number ≡ move.Within (distanceOf high number) → (Old high number → ⊥) → Moved high number
   old : moveOf high number ≡ move.TooOld → Old high number → Moved high number
 
-pub moved-by : (high number : ℕ) → Moved high number
+moved-by : (high number : ℕ) → Moved high number
 moved-by high number =
     elim (decLe (distanceOf number high) farthestAhead) [
       | yes f ↦
