@@ -9,7 +9,7 @@ use Rattle.lists.specs.All.{All}
 use Rattle.metric.specs.declared.Metric.{Metric}
 use Rattle.sent_word.specs.Status.{statusOf, isReceived, afterRegistering, reportedOver, afterReport}
 use Rattle.sent_word.specs.declared.Status.{Status}
-use Rattle.sent_history.specs.Meaning.{Event, registered, reported, Entry, eventsOf, statusesOf, anyReceived, lastOf, shownOf}
+use Rattle.sent_history.specs.Meaning.{Event, wasRegistered, wasReported, Entry, eventsOf, statusesOf, anyReceived, lastOf, shownOf}
 use Rattle.metric.specs.declared.Metric.the-variants as metric
 use Rattle.sent_word.specs.declared.Status.the-variants.{NotReported, Missing}
 
@@ -47,8 +47,8 @@ said (metric.NoTime mark) rts e = absurd (true≢false e)
 
 all-said : (es : List Event) → All Said (statusesOf es)
 all-said [] = tt
-all-said (registered ∷ es) = all-said es
-all-said (reported m rts ∷ es) = (said m rts, all-said es)
+all-said (wasRegistered ∷ es) = all-said es
+all-said (wasReported m rts ∷ es) = (said m rts, all-said es)
 
 -- ---- one more report
 any-last : (ss : List Status) (s : Status) → anyReceived (ss ++ (s ∷ [])) ≡ (anyReceived ss || isReceived s)
@@ -95,23 +95,23 @@ last-last (t ∷ ss) s a b =
     picked false false e = sym (over-missing t s (a .0) b e)
 
 -- ---- one more event
-statuses-registered : (es : List Event) → statusesOf (es ++ (registered ∷ [])) ≡ statusesOf es
+statuses-registered : (es : List Event) → statusesOf (es ++ (wasRegistered ∷ [])) ≡ statusesOf es
 statuses-registered [] = refl
-statuses-registered (registered ∷ es) = statuses-registered es
-statuses-registered (reported m rts ∷ es) = rw (statuses-registered es)
+statuses-registered (wasRegistered ∷ es) = statuses-registered es
+statuses-registered (wasReported m rts ∷ es) = rw (statuses-registered es)
 
-statuses-reported : (es : List Event) (m : Metric) (rts : ℕ) → statusesOf (es ++ (reported m rts ∷ [])) ≡ statusesOf es ++ (statusOf m rts ∷ [])
+statuses-reported : (es : List Event) (m : Metric) (rts : ℕ) → statusesOf (es ++ (wasReported m rts ∷ [])) ≡ statusesOf es ++ (statusOf m rts ∷ [])
 statuses-reported [] m rts = refl
-statuses-reported (registered ∷ es) m rts = statuses-reported es m rts
-statuses-reported (reported x r ∷ es) m rts = rw (statuses-reported es m rts)
+statuses-reported (wasRegistered ∷ es) m rts = statuses-reported es m rts
+statuses-reported (wasReported x r ∷ es) m rts = rw (statuses-reported es m rts)
 
-pub shown-registered : (es : List Event) → shownOf (es ++ (registered ∷ [])) ≡ afterRegistering (shownOf es)
+pub shown-registered : (es : List Event) → shownOf (es ++ (wasRegistered ∷ [])) ≡ afterRegistering (shownOf es)
 shown-registered [] = refl
-shown-registered (registered ∷ es) = rw (statuses-registered es)
-shown-registered (reported m rts ∷ es) = shown-registered es
+shown-registered (wasRegistered ∷ es) = rw (statuses-registered es)
+shown-registered (wasReported m rts ∷ es) = shown-registered es
 
-pub shown-reported : (es : List Event) (m : Metric) (rts : ℕ) → shownOf (es ++ (reported m rts ∷ [])) ≡ afterReport (shownOf es) (statusOf m rts)
+pub shown-reported : (es : List Event) (m : Metric) (rts : ℕ) → shownOf (es ++ (wasReported m rts ∷ [])) ≡ afterReport (shownOf es) (statusOf m rts)
 shown-reported [] m rts = refl
-shown-reported (registered ∷ es) m rts =
+shown-reported (wasRegistered ∷ es) m rts =
     rw (statuses-reported es m rts, last-last (statusesOf es) (statusOf m rts) (all-said es) (said m rts))
-shown-reported (reported x r ∷ es) m rts = shown-reported es m rts
+shown-reported (wasReported x r ∷ es) m rts = shown-reported es m rts

@@ -12,7 +12,7 @@ use Rattle.lists.proofs.Cases.{never}
 use Rattle.metric.specs.declared.Metric.{Metric}
 use Rattle.streams.specs.Full.{fullOf, firstFull, isTooOld}
 use Rattle.streams.specs.Model.{Place, free, stream, highestIn, entriesIn}
-use Rattle.sent_history.specs.Meaning.{Entry, Event, entryOf, registered, reported}
+use Rattle.sent_history.specs.Meaning.{Entry, Event, entryOf, wasRegistered, wasReported}
 use Rattle.sent_history.specs.Stream.{Happened, sent, heard, withEntry, streamAfter, streamFrom, streamBy}
 use Rattle.sent_history.specs.Stream.{sentIn, fullsFrom, topFrom, withFull, registeredIn, ByRegistrations}
 
@@ -24,8 +24,8 @@ registered-last (x ∷ es) e = ap (λ (l : List ℕ). withFull (x .event) (x .fu
   where
     picked : (v : Event) → withFull v (x .full) (registeredIn es ++ withFull (e .event) (e .full) [])
         ≡ withFull v (x .full) (registeredIn es) ++ withFull (e .event) (e .full) []
-    picked registered = refl
-    picked (reported m rts) = refl
+    picked wasRegistered = refl
+    picked (wasReported m rts) = refl
 
 -- a held stream after more of its history
 record Grown (P : Place Entry) (top : ℕ) (es : List Entry) (numbers : List ℕ) : Type 0 where
@@ -48,13 +48,13 @@ module _ (ssrc : ℕ) where
         | no l ↦ rw (lt-leb (fullOf top number) top (omega arith)) (record { x′ = x; es′ = es; is = refl; same = refl })
       ]
     where
-      picked : fullOf top number ≤ top → (b : Bool) → Unmoved (cond b (stream x top es) (withEntry ssrc top es (reported m rts) (fullOf top number))) top es
+      picked : fullOf top number ≤ top → (b : Bool) → Unmoved (cond b (stream x top es) (withEntry ssrc top es (wasReported m rts) (fullOf top number))) top es
       picked l true = record { x′ = x; es′ = es; is = refl; same = refl }
       picked l false = record {
         x′ = ssrc;
-        es′ = es ++ (entryOf (reported m rts) (fullOf top number) ∷ []);
+        es′ = es ++ (entryOf (wasReported m rts) (fullOf top number) ∷ []);
         is = let h : max top (fullOf top number) ≡ top = omega arith in rw h;
-        same = registered-last es (entryOf (reported m rts) (fullOf top number)) ∙ append-nil (registeredIn es);
+        same = registered-last es (entryOf (wasReported m rts) (fullOf top number)) ∙ append-nil (registeredIn es);
       }
 
   grown : (hs : List Happened) (x top : ℕ) (es : List Entry) → Grown (streamFrom ssrc (stream x top es) hs) top es (sentIn hs)
@@ -62,13 +62,13 @@ module _ (ssrc : ℕ) where
   grown [] x top es = record { held = λ e. never (cc); highest = refl; entered = sym (append-nil (registeredIn es)) }
   grown (sent number ∷ hs) x top es =
       let full = fullOf top number in
-      let g = grown hs ssrc (max top full) (es ++ (entryOf registered full ∷ [])) in
+      let g = grown hs ssrc (max top full) (es ++ (entryOf wasRegistered full ∷ [])) in
       record {
         held = g .held;
         highest = g .highest;
         entered =
             g .entered
-            ∙ ap (λ (l : List ℕ). l ++ fullsFrom (max top full) (sentIn hs)) (registered-last es (entryOf registered full))
+            ∙ ap (λ (l : List ℕ). l ++ fullsFrom (max top full) (sentIn hs)) (registered-last es (entryOf wasRegistered full))
             ∙ append-assoc (registeredIn es) (full ∷ []) (fullsFrom (max top full) (sentIn hs));
       }
   grown (heard number m rts ∷ hs) x top es =
@@ -86,32 +86,32 @@ module _ (ssrc : ℕ) where
   by-registrations [] = record { none = λ e. refl; some = λ e. refl; highest = refl; entered = refl }
   by-registrations (sent number ∷ hs) =
       let first : max 0 (firstFull number) ≡ firstFull number = omega arith in
-      let g = grown hs ssrc (firstFull number) (entryOf registered (firstFull number) ∷ []) in
+      let g = grown hs ssrc (firstFull number) (entryOf wasRegistered (firstFull number) ∷ []) in
       rw first (record { none = λ e. never (cc); some = λ e. absurd (g .held e); highest = g .highest; entered = g .entered })
   by-registrations (heard number m rts ∷ hs) = by-registrations hs
 
 -- ---- a full number is that of a registration exactly if its entry is there
-pub registered-have : (es : List Entry) (n : ℕ) → List·Memᴰ (entryOf registered n) es → List·Memᴰ n (registeredIn es)
+pub registered-have : (es : List Entry) (n : ℕ) → List·Memᴰ (entryOf wasRegistered n) es → List·Memᴰ n (registeredIn es)
 unfolding registeredIn
 registered-have [] n m = absurd (List·Memᴰ·not-nil m)
 registered-have (e ∷ es) n m = ⊎-elim here (λ h. there (e .event) (registered-have es n h)) (List·Memᴰ·cases-cons m)
   where
-    here : entryOf registered n ≡ e → List·Memᴰ n (withFull (e .event) (e .full) (registeredIn es))
+    here : entryOf wasRegistered n ≡ e → List·Memᴰ n (withFull (e .event) (e .full) (registeredIn es))
     here h = rw (← h) (List·Memᴰ·head refl)
 
     there : (v : Event) → List·Memᴰ n (registeredIn es) → List·Memᴰ n (withFull v (e .full) (registeredIn es))
-    there registered h = List·Memᴰ·tail h
-    there (reported x rts) h = h
+    there wasRegistered h = List·Memᴰ·tail h
+    there (wasReported x rts) h = h
 
-pub registered-are : (es : List Entry) (n : ℕ) → List·Memᴰ n (registeredIn es) → List·Memᴰ (entryOf registered n) es
+pub registered-are : (es : List Entry) (n : ℕ) → List·Memᴰ n (registeredIn es) → List·Memᴰ (entryOf wasRegistered n) es
 unfolding registeredIn
 registered-are [] n m = absurd (List·Memᴰ·not-nil m)
 registered-are (e ∷ es) n m = picked (e .event) refl m (λ h. List·Memᴰ·tail (registered-are es n h))
   where
-    same : e .event ≡ registered → n ≡ e .full → entryOf registered n ≡ e
+    same : e .event ≡ wasRegistered → n ≡ e .full → entryOf wasRegistered n ≡ e
     same v q = rw (q, ← v)
 
     picked : (v : Event) → e .event ≡ v → List·Memᴰ n (withFull v (e .full) (registeredIn es))
-        → (List·Memᴰ n (registeredIn es) → List·Memᴰ (entryOf registered n) (e ∷ es)) → List·Memᴰ (entryOf registered n) (e ∷ es)
-    picked registered v h rest = ⊎-elim (λ q. List·Memᴰ·head (same v q)) rest (List·Memᴰ·cases-cons h)
-    picked (reported x rts) v h rest = rest h
+        → (List·Memᴰ n (registeredIn es) → List·Memᴰ (entryOf wasRegistered n) (e ∷ es)) → List·Memᴰ (entryOf wasRegistered n) (e ∷ es)
+    picked wasRegistered v h rest = ⊎-elim (λ q. List·Memᴰ·head (same v q)) rest (List·Memᴰ·cases-cons h)
+    picked (wasReported x rts) v h rest = rest h

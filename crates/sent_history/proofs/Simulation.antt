@@ -34,8 +34,7 @@ use Rattle.sent_feedback.specs.TakeIn.{takenAs}
 use Rattle.sent_status.specs.Status.{answerOf, statusAt, askedAt, statusAsked}
 use Rattle.sent_status.specs.declared.StatusAnswer.{StatusAnswer}
 use Rattle.sent_history.specs.Calls.{Call, register, takeIn, toRegistration, toTakingIn, senderStep, senderAnswer, senderRun, senderAnswers, CallInRange}
-use Rattle.sent_history.specs.Meaning.{Entry, entryOf, shownBy}
-use Rattle.sent_history.specs.Meaning as event
+use Rattle.sent_history.specs.Meaning.{Entry, wasRegistered, wasReported, entryOf, shownBy}
 use Rattle.sent_history.specs.Model.{sentMeaning, noteReport, noteAll, modelTaken, modelStep, modelAnswer}
 use Rattle.sent_history.specs.Model.{modelRun, modelAnswers, shownAt, modelStatus, modelAsked}
 use Rattle.sent_history.proofs.Lawful.{shown-lawful, register-enters, report-enters}
@@ -68,12 +67,12 @@ report-alike st ps R rts r low = by (findOf (st .places) (r .ssrc)) refl
     by : (f : Found) → findOf (st .places) (r .ssrc) ≡ f
         → Reads sentMeaning (with st (reportedIn f (st .places) rts (st .cells) (r .number) (r .metric))) (noteReport rts ps r)
     by (At k) e =
-        note-alike sentMeaning shown-lawful st ps R (wordReported (r .metric) rts) (entryOf (event.reported (decodeOf (r .metric)) rts)) (λ n. refl)
+        note-alike sentMeaning shown-lawful st ps R (wordReported (r .metric) rts) (entryOf (wasReported (decodeOf (r .metric)) rts)) (λ n. refl)
         (report-enters (r .metric) rts) (r .ssrc) (r .number) low k e (reportedAt k (highestAt (st .places) k) rts (st .cells) (r .number) (r .metric))
         (reported-within (st .cells) k (highestAt (st .places) k) rts (r .number) (r .metric))
         (reported-past (st .cells) k (highestAt (st .places) k) rts (r .number) (r .metric))
     by Nothing e =
-        note-lost sentMeaning shown-lawful st ps R (wordReported (r .metric) rts) (entryOf (event.reported (decodeOf (r .metric)) rts)) (λ n. refl)
+        note-lost sentMeaning shown-lawful st ps R (wordReported (r .metric) rts) (entryOf (wasReported (decodeOf (r .metric)) rts)) (λ n. refl)
         (report-enters (r .metric) rts) (r .ssrc) (r .number) low e
 
 -- ---- the reports of a packet
@@ -104,7 +103,7 @@ module _ (st : Store) (ps : List (Place Entry)) (R : Reads sentMeaning st ps) wh
 
   call-alike : (c : Call) → CallInRange c → (senderAnswer st c ≡ modelAnswer ps c) × Reads sentMeaning (senderStep st c) (modelStep ps c)
   call-alike (register ssrc number) r =
-      let a = admit-alike sentMeaning shown-lawful st ps R registeredWord (entryOf event.registered) (λ n. refl) register-enters
+      let a = admit-alike sentMeaning shown-lawful st ps R registeredWord (entryOf wasRegistered) (λ n. refl) register-enters
       ssrc number (r .1) registration.Accepted registration.Refused (r .0) in
       rw (shaped-is (st .places) (st .cells) (R .shape)) (ap toRegistration (a .answer), a .reads)
   call-alike (takeIn s) r =

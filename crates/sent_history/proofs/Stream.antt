@@ -15,17 +15,17 @@ use Rattle.streams.proofs.Alone.{Only, Admitted, entered, kept, admitted-as, wi
 use Rattle.sent_register.specs.declared.Registration.{Registration}
 use Rattle.sent_block.specs.Reports.{Report, reportsOf}
 use Rattle.sent_history.specs.Calls.{Call, register, takeIn, toRegistration}
-use Rattle.sent_history.specs.Meaning.{Entry, entryOf, registered, reported}
+use Rattle.sent_history.specs.Meaning.{Entry, entryOf, wasRegistered, wasReported}
 use Rattle.sent_history.specs.Model.{modelRegistered, noteReport, noteAll, modelTaken, modelStep, modelAnswer, modelRun, modelAnswers}
 use Rattle.sent_history.specs.Stream.{Happened, sent, heard, heardIn, heardAs, happenedBy, historyOf, streamAfter, streamFrom}
 use Rattle.sent_register.specs.declared.Registration.the-variants as registration
 
 -- one more entry is what happened
-sent-after : (x number : ℕ) (P : Place Entry) → withOne (entryOf registered) x P (nextFull P number) ≡ streamAfter x P (sent number)
+sent-after : (x number : ℕ) (P : Place Entry) → withOne (entryOf wasRegistered) x P (nextFull P number) ≡ streamAfter x P (sent number)
 sent-after x number free = refl
 sent-after x number (stream z top es) = refl
 
-heard-after : (x number : ℕ) (m : Metric) (rts : ℕ) (P : Place Entry) → notedBy (entryOf (reported m rts)) x P number ≡ streamAfter x P (heard number m rts)
+heard-after : (x number : ℕ) (m : Metric) (rts : ℕ) (P : Place Entry) → notedBy (entryOf (wasReported m rts)) x P number ≡ streamAfter x P (heard number m rts)
 heard-after x number m rts free = refl
 heard-after x number m rts (stream z top es) = refl
 
@@ -69,7 +69,7 @@ report-seen : (rts : ℕ) (r : Report) (ps : List (Place Entry)) → Once ps
 report-seen rts r ps once =
     one-seen ps once (r .ssrc) (heard (r .number) (decodeOf (r .metric)) rts) (noteReport rts ps r)
     (rw (← heard-after (r .ssrc) (r .number) (decodeOf (r .metric)) rts (streamIn ps (r .ssrc)))
-    (noted-only (entryOf (reported (decodeOf (r .metric)) rts)) ps once (r .ssrc) (r .number)))
+    (noted-only (entryOf (wasReported (decodeOf (r .metric)) rts)) ps once (r .ssrc) (r .number)))
 
 reports-seen : (rts : ℕ) (rs : List Report) (ps : List (Place Entry)) → Once ps → Seen ps (noteAll rts ps rs) (λ (y : ℕ). heardIn y rts rs)
 unfolding noteAll heardIn
@@ -103,7 +103,7 @@ module _ (ps : List (Place Entry)) (once : Once ps) (x number : ℕ) where
   uncounted true = refl
   uncounted false = refl
 
-  registered-seen : (o : ModelAfter Entry Registration) → Admitted (entryOf registered) ps once x number registration.Accepted registration.Refused o
+  registered-seen : (o : ModelAfter Entry Registration) → Admitted (entryOf wasRegistered) ps once x number registration.Accepted registration.Refused o
       → Seen ps (o .places) (λ (y : ℕ). happenedBy y (register x number) (toRegistration (o .answer)))
   registered-seen o (entered ps′ only) =
       let s = one-seen ps once x (sent number) ps′ (rw (← sent-after x number (streamIn ps x)) only) in
@@ -115,7 +115,7 @@ module _ (ps : List (Place Entry)) (once : Once ps) (x number : ℕ) where
 -- ---- every list of calls
 call-seen : (c : Call) (ps : List (Place Entry)) → Once ps → Seen ps (modelStep ps c) (λ (y : ℕ). happenedBy y c (modelAnswer ps c))
 call-seen (register x number) ps once =
-    registered-seen ps once x number (modelRegistered ps x number) (admitted-as (entryOf registered) ps once x number registration.Accepted registration.Refused)
+    registered-seen ps once x number (modelRegistered ps x number) (admitted-as (entryOf wasRegistered) ps once x number registration.Accepted registration.Refused)
 call-seen (takeIn s) ps once = taken-seen (decodePacket s) ps once
 
 pub run-seen : (cs : List Call) (ps : List (Place Entry)) → Once ps → Seen ps (modelRun ps cs) (λ (y : ℕ). historyOf y cs (modelAnswers ps cs))

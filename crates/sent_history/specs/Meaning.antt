@@ -14,8 +14,8 @@ use Rattle.sent_word.specs.declared.Sent.the-variants.{NotRegistered, Registere
 
 -- it was registered, or a packet with that RTS had that metric for it
 pub data Event : Type 0 where
-  registered : Event
-  reported : Metric → ℕ → Event
+  wasRegistered : Event
+  wasReported : Metric → ℕ → Event
 
 -- what happened to a full number
 pub record Entry : Type 0 where
@@ -33,14 +33,14 @@ eventsOf (e ∷ es) n = let rest = eventsOf es n in cond (eqb (e .full) n) (e .e
 -- those behind the first registration
 abbrev pub sinceFirst : List Event → List Event
 sinceFirst [] = []
-sinceFirst (registered ∷ es) = es
-sinceFirst (reported m rts ∷ es) = sinceFirst es
+sinceFirst (wasRegistered ∷ es) = es
+sinceFirst (wasReported m rts ∷ es) = sinceFirst es
 
 -- what was reported, in its order
 abbrev pub statusesOf : List Event → List Status
 statusesOf [] = []
-statusesOf (registered ∷ es) = statusesOf es
-statusesOf (reported m rts ∷ es) = statusOf m rts ∷ statusesOf es
+statusesOf (wasRegistered ∷ es) = statusesOf es
+statusesOf (wasReported m rts ∷ es) = statusOf m rts ∷ statusesOf es
 
 abbrev pub anyReceived : List Status → Bool
 anyReceived [] = false
@@ -55,8 +55,8 @@ lastOf (s ∷ ss) = cond (anyReceived ss) (lastOf ss) s
 -- what is known by the events of a number: what was reported before its first registration was passed over
 abbrev pub shownOf : List Event → Sent
 shownOf [] = NotRegistered
-shownOf (registered ∷ es) = Registered (lastOf (statusesOf es))
-shownOf (reported m rts ∷ es) = shownOf es
+shownOf (wasRegistered ∷ es) = Registered (lastOf (statusesOf es))
+shownOf (wasReported m rts ∷ es) = shownOf es
 
 -- what the entries say of the full number n
 abbrev pub shownBy : List Entry → ℕ → Sent
@@ -68,19 +68,19 @@ sinceOf es n = sinceFirst (eventsOf es n)
 
 -- none of these events reports the number received
 abbrev pub NoneReceived : List Event → Type 0
-NoneReceived es = (m : Metric) (rts : ℕ) → List·Memᴰ (reported m rts) es → isReceived (statusOf m rts) ≡ false
+NoneReceived es = (m : Metric) (rts : ℕ) → List·Memᴰ (wasReported m rts) es → isReceived (statusOf m rts) ≡ false
 
 -- the same as `shownBy`, rule by rule
 pub record AsReported (a : Sent) (es : List Entry) (n : ℕ) : Type 0 where
   -- registered exactly if a registration had the full number
-  pub registered-if : List·Memᴰ (entryOf registered n) es → a ≡ NotRegistered → ⊥
-  pub registered-only : (s : Status) → a ≡ Registered s → List·Memᴰ (entryOf registered n) es
+  pub registered-if : List·Memᴰ (entryOf wasRegistered n) es → a ≡ NotRegistered → ⊥
+  pub registered-only : (s : Status) → a ≡ Registered s → List·Memᴰ (entryOf wasRegistered n) es
   -- the last "received" since then
   pub last-received : (s : Status) (m : Metric) (rts : ℕ) (before after : List Event)
-      → a ≡ Registered s → sinceOf es n ≡ before ++ (reported m rts ∷ after) → isReceived (statusOf m rts) ≡ true → NoneReceived after
+      → a ≡ Registered s → sinceOf es n ≡ before ++ (wasReported m rts ∷ after) → isReceived (statusOf m rts) ≡ true → NoneReceived after
       → s ≡ statusOf m rts
   -- else missing, if anything was reported since
-  pub missing : (s : Status) (m : Metric) (rts : ℕ) → a ≡ Registered s → List·Memᴰ (reported m rts) (sinceOf es n) → NoneReceived (sinceOf es n)
+  pub missing : (s : Status) (m : Metric) (rts : ℕ) → a ≡ Registered s → List·Memᴰ (wasReported m rts) (sinceOf es n) → NoneReceived (sinceOf es n)
       → s ≡ Missing
   -- else not reported yet
-  pub unreported : (s : Status) → a ≡ Registered s → ((m : Metric) (rts : ℕ) → List·Memᴰ (reported m rts) (sinceOf es n) → ⊥) → s ≡ NotReported
+  pub unreported : (s : Status) → a ≡ Registered s → ((m : Metric) (rts : ℕ) → List·Memᴰ (wasReported m rts) (sinceOf es n) → ⊥) → s ≡ NotReported

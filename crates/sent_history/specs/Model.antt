@@ -19,7 +19,7 @@ use Rattle.sent_status.specs.declared.StatusAnswer.{StatusAnswer}
 use Rattle.sent_block.specs.Reports.{Report, reportsOf}
 use Rattle.sent_feedback.specs.declared.TakingIn.{TakingIn}
 use Rattle.sent_history.specs.Calls.{Call, register, takeIn, CallAnswer, toRegistration, toTakingIn}
-use Rattle.sent_history.specs.Meaning.{Entry, entryOf, registered, reported, shownBy}
+use Rattle.sent_history.specs.Meaning.{Entry, entryOf, wasRegistered, wasReported, shownBy}
 use Rattle.refusal.specs.declared.Refusal.the-variants.{NotHeld, NotRegistered}
 use Rattle.sent_register.specs.declared.Registration.the-variants as registration
 use Rattle.sent_status.specs.declared.StatusAnswer.the-variants as answer
@@ -31,11 +31,11 @@ sentMeaning = record { full = λ (e : Entry). e .full; read = readWord; shown = 
 
 -- registering a number: 3 or 2
 abbrev pub modelRegistered : List (Place Entry) → ℕ → ℕ → ModelAfter Entry Registration
-modelRegistered ps ssrc number = admitted registration.Accepted registration.Refused (entryOf registered) ps ssrc number
+modelRegistered ps ssrc number = admitted registration.Accepted registration.Refused (entryOf wasRegistered) ps ssrc number
 
 -- one report, and all of a packet
 abbrev pub noteReport : ℕ → List (Place Entry) → Report → List (Place Entry)
-noteReport rts ps r = noted (entryOf (reported (decodeOf (r .metric)) rts)) ps (r .ssrc) (r .number)
+noteReport rts ps r = noted (entryOf (wasReported (decodeOf (r .metric)) rts)) ps (r .ssrc) (r .number)
 
 unfoldable pub noteAll : ℕ → List (Place Entry) → List Report → List (Place Entry)
 noteAll rts ps [] = ps

@@ -12,7 +12,7 @@ use Rattle.streams.specs.Full.{fullOf, firstFull, isTooOld}
 use Rattle.streams.specs.Model.{Place, free, stream, highestIn, entriesIn}
 use Rattle.sent_block.specs.Reports.{Report, reportsOf}
 use Rattle.sent_history.specs.Calls.{Call, register, takeIn, CallAnswer, toRegistration, toTakingIn}
-use Rattle.sent_history.specs.Meaning.{Event, Entry, entryOf, registered, reported}
+use Rattle.sent_history.specs.Meaning.{Event, Entry, entryOf, wasRegistered, wasReported}
 use Rattle.sent_register.specs.declared.Registration.the-variants as registration
 
 -- what happened to a stream: a sequence number was registered; a packet reported one
@@ -54,12 +54,12 @@ withEntry ssrc top es event full = stream ssrc (max top full) (es ++ (entryOf ev
 -- an accepted registration counts on, and takes a place for a new stream; a report is entered
 -- where its number is in the window
 abbrev pub streamAfter : ℕ → Place Entry → Happened → Place Entry
-streamAfter ssrc free (sent number) = withEntry ssrc 0 [] registered (firstFull number)
+streamAfter ssrc free (sent number) = withEntry ssrc 0 [] wasRegistered (firstFull number)
 streamAfter ssrc free (heard number m rts) = free
-streamAfter ssrc (stream x top es) (sent number) = withEntry ssrc top es registered (fullOf top number)
+streamAfter ssrc (stream x top es) (sent number) = withEntry ssrc top es wasRegistered (fullOf top number)
 streamAfter ssrc (stream x top es) (heard number m rts) =
     cond (leb (fullOf top number) top)
-    (cond (isTooOld top (fullOf top number)) (stream x top es) (withEntry ssrc top es (reported m rts) (fullOf top number)))
+    (cond (isTooOld top (fullOf top number)) (stream x top es) (withEntry ssrc top es (wasReported m rts) (fullOf top number)))
     (stream x top es)
 
 unfoldable pub streamFrom : ℕ → Place Entry → List Happened → Place Entry
@@ -97,8 +97,8 @@ topOf (number ∷ more) = topFrom (firstFull number) more
 
 -- the full numbers of the entries that are registrations, in their order
 abbrev pub withFull : Event → ℕ → List ℕ → List ℕ
-withFull registered full rest = full ∷ rest
-withFull (reported m rts) full rest = rest
+withFull wasRegistered full rest = full ∷ rest
+withFull (wasReported m rts) full rest = rest
 
 unfoldable pub registeredIn : List Entry → List ℕ
 registeredIn [] = []
