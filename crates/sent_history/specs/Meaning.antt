@@ -62,7 +62,7 @@ shownOf (wasReported m rts ∷ es) = shownOf es
 abbrev pub shownBy : List Entry → ℕ → Sent
 shownBy es n = shownOf (eventsOf es n)
 
--- the reports on n since it was registered
+-- the events of n behind its first registration
 abbrev pub sinceOf : List Entry → ℕ → List Event
 sinceOf es n = sinceFirst (eventsOf es n)
 
