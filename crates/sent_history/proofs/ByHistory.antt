@@ -27,7 +27,8 @@ use Rattle.sent_word.specs.declared.Sent.{Sent}
 use Rattle.sent_status.specs.Status.{answerOf, statusAsked}
 use Rattle.sent_history.specs.Calls.{Call, CallAnswer, senderRun, senderAnswers, CallInRange}
 use Rattle.sent_history.specs.Meaning.{Entry, shownBy, AsReported}
-use Rattle.sent_history.specs.Model.{sentMeaning, modelRun, modelAnswers, modelStatus, modelAsked}
+use Rattle.sent_history.specs.Model.{modelRun, modelAnswers, modelStatus, modelAsked}
+use Rattle.sent_history.specs.Reading.{sentMeaning}
 use Rattle.sent_history.specs.Stream.{Happened, historyOf, streamFrom, streamBy, sentIn, fullsOf, topOf}
 use Rattle.sent_history.proofs.Sentences.{as-reported, as-reported-once}
 use Rattle.sent_history.proofs.Stream.{run-seen}

@@ -8,7 +8,7 @@ use Rattle.sent_word.specs.Word.{registeredWord, wordReported}
 use Rattle.sent_word.specs.declared.Sent.{Sent}
 use Rattle.sent_word.proofs.Words.{read-zero, read-registered, read-reported}
 use Rattle.sent_history.specs.Meaning.{wasRegistered, wasReported, entryOf, eventsOf, shownOf}
-use Rattle.sent_history.specs.Model.{sentMeaning}
+use Rattle.sent_history.specs.Reading.{sentMeaning}
 use Rattle.sent_history.proofs.Events.{events-same, events-other, events-none, shown-registered, shown-reported}
 
 pub shown-lawful : Lawful sentMeaning

@@ -35,8 +35,9 @@ use Rattle.sent_status.specs.Status.{answerOf, statusAt, askedAt, statusAsked}
 use Rattle.sent_status.specs.declared.StatusAnswer.{StatusAnswer}
 use Rattle.sent_history.specs.Calls.{Call, register, takeIn, toRegistration, toTakingIn, senderStep, senderAnswer, senderRun, senderAnswers, CallInRange}
 use Rattle.sent_history.specs.Meaning.{Entry, wasRegistered, wasReported, entryOf, shownBy}
-use Rattle.sent_history.specs.Model.{sentMeaning, noteReport, noteAll, modelTaken, modelStep, modelAnswer}
+use Rattle.sent_history.specs.Model.{noteReport, noteAll, modelTaken, modelStep, modelAnswer}
 use Rattle.sent_history.specs.Model.{modelRun, modelAnswers, shownAt, modelStatus, modelAsked}
+use Rattle.sent_history.specs.Reading.{sentMeaning}
 use Rattle.sent_history.proofs.Lawful.{shown-lawful, register-enters, report-enters}
 use Rattle.lists.specs.declared.Found.the-variants.{At, Nothing}
 use Rattle.refusal.specs.declared.Refusal.the-variants.{NotRegistered}

@@ -1,5 +1,6 @@
 pub mod Calls
 pub mod Meaning
 pub mod Model
+pub mod Reading
 pub mod Stream
 pub mod Starred

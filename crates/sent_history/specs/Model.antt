@@ -9,10 +9,7 @@ use Rattle.metric.specs.Metric.{decodeOf}
 use Rattle.reader.specs.Reading.{Decoded, packet, refused, decodePacket}
 use Rattle.streams.specs.Full.{fullOf, isTooOld}
 use Rattle.streams.specs.Model.{Place, free, stream, ModelAfter, modelAfter, streamIn, admitted, noted}
-use Rattle.streams.specs.Reading.{Meaning}
 use Rattle.streams.specs.Runs.{run, answers}
-use Rattle.sent_word.specs.Word.{readWord}
-use Rattle.sent_word.specs.declared.Sent.{Sent}
 use Rattle.sent_register.specs.declared.Registration.{Registration}
 use Rattle.sent_status.specs.Status.{answerOf}
 use Rattle.sent_status.specs.declared.StatusAnswer.{StatusAnswer}
@@ -24,10 +21,6 @@ use Rattle.refusal.specs.declared.Refusal.the-variants.{NotHeld, NotRegistered}
 use Rattle.sent_register.specs.declared.Registration.the-variants as registration
 use Rattle.sent_status.specs.declared.StatusAnswer.the-variants as answer
 use Rattle.sent_feedback.specs.declared.TakingIn.the-variants as taking
-
--- what the words of a sender's store say, and what its entries say
-abbrev pub sentMeaning : Meaning Entry Sent
-sentMeaning = record { full = λ (e : Entry). e .full; read = readWord; shown = shownBy }
 
 -- registering a number: 3 or 2
 abbrev pub modelRegistered : List (Place Entry) → ℕ → ℕ → ModelAfter Entry Registration
