@@ -9,6 +9,7 @@ use Rattle.lists.specs.All.{All}
 use Rattle.metric.specs.declared.Metric.{Metric}
 use Rattle.sent_word.specs.Status.{statusOf, isReceived, afterRegistering, reportedOver, afterReport}
 use Rattle.sent_word.specs.declared.Status.{Status}
+use Rattle.sent_word.proofs.Words.{received-replaces}
 use Rattle.sent_history.specs.Meaning.{Event, wasRegistered, wasReported, Entry, eventsOf, statusesOf, anyReceived, lastOf, shownOf}
 use Rattle.metric.specs.declared.Metric.the-variants as metric
 use Rattle.sent_word.specs.declared.Status.the-variants.{NotReported, Missing}
@@ -63,10 +64,6 @@ any-last (t ∷ ss) s = rw (any-last ss s) (picked (isReceived t))
     picked true = refl
     picked false = refl
 
-over-received : (held s : Status) → isReceived s ≡ true → reportedOver held s ≡ s
-unfolding reportedOver
-over-received held s e = rw e
-
 over-none : (s : Status) → reportedOver NotReported s ≡ s
 unfolding reportedOver
 over-none s = picked (isReceived s)
@@ -91,7 +88,7 @@ last-last (t ∷ ss) s a b =
   where
     picked : (x r : Bool) → isReceived s ≡ r → cond (x || r) (reportedOver (lastOf ss) s) t ≡ reportedOver (cond x (lastOf ss) t) s
     picked true r e = refl
-    picked false true e = over-received (lastOf ss) s e ∙ sym (over-received t s e)
+    picked false true e = received-replaces (lastOf ss) s e ∙ sym (received-replaces t s e)
     picked false false e = sym (over-missing t s (a .0) b e)
 
 -- ---- one more event

@@ -7,7 +7,6 @@ use native.Mathlib.Omega.{arith}
 use native.Mathlib.Decide.{decLe, decLt}
 use borrow.Author.Tests.{le-leb, lt-leb}
 use lib.ListN.{length, getD}
-use lib.Seq.{set-getD}
 use Rattle.lists.specs.All.{All}
 use Rattle.lists.specs.declared.Found.{Found}
 use Rattle.lists.proofs.All.{all-join}
@@ -18,7 +17,7 @@ use Rattle.window.specs.Number.{distanceOf, sequenceNumbers, farthestAhead}
 use Rattle.places.specs.Place.{placeAt, highestAt, findOf}
 use Rattle.places.proofs.Held.{held-highest}
 use Rattle.places.proofs.Shape.{shaped-is}
-use Rattle.place_window.specs.Window.{cellIndex, cellAt, updated}
+use Rattle.place_window.specs.Window.{cellAt, updated}
 use Rattle.packet.specs.Packet.{Block}
 use Rattle.reader.specs.Reading.{Decoded, packet, refused, decodePacket}
 use Rattle.streams.specs.Full.{fullOf, isTooOld}
@@ -29,7 +28,8 @@ use Rattle.streams.proofs.Places.{named-is, find-same}
 use Rattle.streams.proofs.Admission.{note-alike, note-lost, admit-alike}
 use Rattle.streams.proofs.Runs.{simulated}
 use Rattle.sent_word.specs.Word.{readWord, registeredWord, wordReported}
-use Rattle.sent_block.specs.Reports.{Report, reportsFrom, reportsOf, wordInWindow, reportedAt, reportedIn, reported, allReported}
+use Rattle.sent_block.specs.Reports.{Report, reportsFrom, reportsOf, reportedAt, reportedIn, reported, allReported}
+use Rattle.sent_block.proofs.Reports.{in-window, reportedAt-past}
 use Rattle.sent_feedback.specs.TakeIn.{takenAs}
 use Rattle.sent_status.specs.Status.{answerOf, statusAt, askedAt, statusAsked}
 use Rattle.sent_status.specs.declared.StatusAnswer.{StatusAnswer}
@@ -45,14 +45,10 @@ use Rattle.sent_register.specs.declared.Registration.the-variants as registrati
 use Rattle.sent_status.specs.declared.StatusAnswer.the-variants as answer
 
 -- ---- one report
-module _ (cells : List ℕ) (p highest rts number m : ℕ) where
-  reported-within : distanceOf highest number < cellsOfAPlace → reportedAt p highest rts cells number m ≡ updated (wordReported m rts) cells p number
-  unfolding updated wordInWindow
-  reported-within l = rw (lt-leb cellsOfAPlace (distanceOf highest number) l)
-
-  reported-past : cellsOfAPlace ≤ distanceOf highest number → reportedAt p highest rts cells number m ≡ cells
-  unfolding updated wordInWindow
-  reported-past l = rw (le-leb cellsOfAPlace (distanceOf highest number) l) (set-getD cells (cellIndex p number) 0)
+reportedAt-within : (p highest rts : ℕ) (cells : List ℕ) (number m : ℕ) → distanceOf highest number < cellsOfAPlace
+    → reportedAt p highest rts cells number m ≡ updated (wordReported m rts) cells p number
+unfolding updated
+reportedAt-within p highest rts cells number m l = rw (in-window (distanceOf highest number) m rts (cellAt cells p number) l)
 
 abbrev with : Store → List ℕ → Store
 with st cells = record { places = st .places; cells = cells }
@@ -70,8 +66,8 @@ report-alike st ps R rts r low = by (findOf (st .places) (r .ssrc)) refl
     by (At k) e =
         note-alike sentMeaning shown-lawful st ps R (wordReported (r .metric) rts) (entryOf (wasReported (decodeOf (r .metric)) rts)) (λ n. refl)
         (report-enters (r .metric) rts) (r .ssrc) (r .number) low k e (reportedAt k (highestAt (st .places) k) rts (st .cells) (r .number) (r .metric))
-        (reported-within (st .cells) k (highestAt (st .places) k) rts (r .number) (r .metric))
-        (reported-past (st .cells) k (highestAt (st .places) k) rts (r .number) (r .metric))
+        (reportedAt-within k (highestAt (st .places) k) rts (st .cells) (r .number) (r .metric))
+        (reportedAt-past k (highestAt (st .places) k) rts (st .cells) (r .number) (r .metric))
     by Nothing e =
         note-lost sentMeaning shown-lawful st ps R (wordReported (r .metric) rts) (entryOf (wasReported (decodeOf (r .metric)) rts)) (λ n. refl)
         (report-enters (r .metric) rts) (r .ssrc) (r .number) low e
