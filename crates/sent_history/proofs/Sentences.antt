@@ -18,7 +18,7 @@ use Rattle.sent_word.specs.declared.Status.the-variants.{NotReported, Missing}
 use Rattle.sent_word.specs.declared.Sent.the-variants.{NotRegistered, Registered}
 
 -- ---- the events of n are those of its entries
-pub events-have : (es : List Entry) (event : Event) (n : ℕ) → List·Memᴰ (entryOf event n) es → List·Memᴰ event (eventsOf es n)
+events-have : (es : List Entry) (event : Event) (n : ℕ) → List·Memᴰ (entryOf event n) es → List·Memᴰ event (eventsOf es n)
 unfolding eventsOf
 events-have [] event n m = absurd (List·Memᴰ·not-nil m)
 events-have (x ∷ es) event n m = ⊎-elim (λ h. here h) (λ h. there (eqb (x .full) n) (events-have es event n h)) (List·Memᴰ·cases-cons m)
@@ -30,7 +30,7 @@ events-have (x ∷ es) event n m = ⊎-elim (λ h. here h) (λ h. there (eqb (x 
     there true h = List·Memᴰ·tail h
     there false h = h
 
-pub events-are : (es : List Entry) (event : Event) (n : ℕ) → List·Memᴰ event (eventsOf es n) → List·Memᴰ (entryOf event n) es
+events-are : (es : List Entry) (event : Event) (n : ℕ) → List·Memᴰ event (eventsOf es n) → List·Memᴰ (entryOf event n) es
 unfolding eventsOf
 events-are [] event n m = absurd (List·Memᴰ·not-nil m)
 events-are (x ∷ es) event n m = picked (eqb (x .full) n) refl m (λ h. List·Memᴰ·tail (events-are es event n h))

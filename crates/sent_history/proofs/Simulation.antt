@@ -56,7 +56,7 @@ with st cells = record { places = st .places; cells = cells }
 abbrev NumberLow : Report → Type 0
 NumberLow r = r .number < sequenceNumbers
 
-pub report-alike : (st : Store) (ps : List (Place Entry)) → Reads sentMeaning st ps → (rts : ℕ) (r : Report) → NumberLow r
+report-alike : (st : Store) (ps : List (Place Entry)) → Reads sentMeaning st ps → (rts : ℕ) (r : Report) → NumberLow r
     → Reads sentMeaning (with st (reported (st .places) rts (st .cells) r)) (noteReport rts ps r)
 unfolding reported
 report-alike st ps R rts r low = by (findOf (st .places) (r .ssrc)) refl

@@ -118,7 +118,7 @@ module _ {E C : Type 0} (M : Meaning E C) where
         high = held-highest (getD (st .places) k 0) ssrc (top % sequenceNumbers) (S .place)
 
         -- what is noted of a number of the window changes its cell
-        pub note-within : distanceOf (top % sequenceNumbers) number < cellsOfAPlace
+        note-within : distanceOf (top % sequenceNumbers) number < cellsOfAPlace
             → Reads M (record { places = st .places; cells = updated f (st .cells) k number }) (notedAt entry ps k ssrc (fullOf top number))
         note-within b =
             let g = S .begun in
@@ -131,7 +131,7 @@ module _ {E C : Type 0} (M : Meaning E C) where
             (within top (fullOf top number) es S (full-low top number g numberLow) (omega arith) (omega arith))
 
         -- and nothing where it is not in the window
-        pub note-past : cellsOfAPlace ≤ distanceOf (top % sequenceNumbers) number → Reads M st (notedAt entry ps k ssrc (fullOf top number))
+        note-past : cellsOfAPlace ≤ distanceOf (top % sequenceNumbers) number → Reads M st (notedAt entry ps k ssrc (fullOf top number))
         note-past b =
             let g = S .begun in
             elim (decLe (distanceOf number (top % sequenceNumbers)) farthestAhead) [

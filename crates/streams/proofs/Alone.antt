@@ -41,7 +41,7 @@ module _ {E : Type 0} where
     pub others : (y : ℕ) → (y ≡ x → ⊥) → streamIn ps′ y ≡ streamIn ps y
 
   module _ (ps : List (Place E)) (once : Once ps) (x : ℕ) where
-    pub same-only : Only ps x ps (streamIn ps x)
+    same-only : Only ps x ps (streamIn ps x)
     same-only = record { once = once; own = refl; others = λ y n. refl }
 
     -- the place k gets P, which names no stream but x, and no other place named x
@@ -65,7 +65,7 @@ module _ {E : Type 0} where
         let b = first-below (λ (i : ℕ). names x (at ps i)) (length ps) 0 k e in
         set-only k (omega arith) (λ y h. names-one (at ps k) y x h t) (λ i h. once x i k h t)
 
-    pub vacant-only : (k : ℕ) → findIn ps x ≡ Nothing → vacantIn ps ≡ At k → (P : Place E) → ((y : ℕ) → names y P ≡ true → y ≡ x)
+    vacant-only : (k : ℕ) → findIn ps x ≡ Nothing → vacantIn ps ≡ At k → (P : Place E) → ((y : ℕ) → names y P ≡ true → y ≡ x)
         → Only ps x (set ps k P) P
     vacant-only k e v =
         let b = first-below (λ (i : ℕ). isVacant (at ps i)) (length ps) 0 k v in
@@ -73,7 +73,7 @@ module _ {E : Type 0} where
         set-only k (omega arith) (λ y h. absurd (false≢true (sym (ap (names y) n) ∙ h))) (λ i h. absurd (lost ps x e i h))
 
     -- the stream that a search found
-    pub found-stream : (f : Found) → findIn ps x ≡ f → streamIn ps x ≡ foundIn f ps
+    found-stream : (f : Found) → findIn ps x ≡ f → streamIn ps x ≡ foundIn f ps
     found-stream f e = ap (λ (g : Found). foundIn g ps) e
 
   -- the full number of a number that moves the window of the stream, which was P

@@ -21,12 +21,12 @@ module _ (f : ℕ → ℕ) (cells : List ℕ) (k number : ℕ) where
   unfolding updated
   length-updated = rw length-set
 
-  pub updated-same : (m : ℕ) → m % cellsOfAPlace ≡ number % cellsOfAPlace → cellsOfAPlace * k + cellsOfAPlace ≤ length cells
+  updated-same : (m : ℕ) → m % cellsOfAPlace ≡ number % cellsOfAPlace → cellsOfAPlace * k + cellsOfAPlace ≤ length cells
       → cellAt (updated f cells k number) k m ≡ f (cellAt cells k m)
   unfolding updated
   updated-same m e room = rw e (getD-set-same cells (cellsOfAPlace * k + number % cellsOfAPlace) _ 0 (omega arith))
 
-  pub updated-other : (j : ℕ) → (j ≡ cellsOfAPlace * k + number % cellsOfAPlace → ⊥) → getD (updated f cells k number) j 0 ≡ getD cells j 0
+  updated-other : (j : ℕ) → (j ≡ cellsOfAPlace * k + number % cellsOfAPlace → ⊥) → getD (updated f cells k number) j 0 ≡ getD cells j 0
   unfolding updated
   updated-other j n = getD-set-other cells (cellsOfAPlace * k + number % cellsOfAPlace) j _ 0 n
 
@@ -50,14 +50,14 @@ module _ (cells : List ℕ) (k number n : ℕ) where
   -- full is the highest number now, and n numbers are new to its window
   module _ (full : ℕ) (low : full % sequenceNumbers ≡ number) (few : n ≤ cellsOfAPlace)
       (room : cellsOfAPlace * k + cellsOfAPlace ≤ length cells) (m : ℕ) (le : m ≤ full) where
-    pub newest-new : full < m + n → cellAt (newestEmptied cells k number n) k m ≡ 0
+    newest-new : full < m + n → cellAt (newestEmptied cells k number n) k m ≡ 0
     unfolding newestEmptied
     newest-new l =
         let s = counted full number m n low few le l in
         emptied-gone n (m + n - (full + 1)) cells (cellsOfAPlace * k) (number + (cellsOfAPlace + 1) - n)
         (cellsOfAPlace * k + m % cellsOfAPlace) (omega arith) (omega arith) (omega arith)
 
-    pub newest-old : m + n ≤ full → full < m + cellsOfAPlace → cellAt (newestEmptied cells k number n) k m ≡ cellAt cells k m
+    newest-old : m + n ≤ full → full < m + cellsOfAPlace → cellAt (newestEmptied cells k number n) k m ≡ cellAt cells k m
     unfolding newestEmptied
     newest-old l h =
         emptied-kept n cells (cellsOfAPlace * k) (number + (cellsOfAPlace + 1) - n) (cellsOfAPlace * k + m % cellsOfAPlace)

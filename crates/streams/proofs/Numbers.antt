@@ -35,7 +35,7 @@ module _ (top number : ℕ) (begun : sequenceNumbers ≤ top) (low : number < se
   unfolding fullOf
   full-ahead l = rw (not-behind (distanceOf number (top % sequenceNumbers)) l)
 
-  pub full-far : farthestAhead < distanceOf number (top % sequenceNumbers) → fullOf top number ≡ top + distanceOf number (top % sequenceNumbers) - sequenceNumbers
+  full-far : farthestAhead < distanceOf number (top % sequenceNumbers) → fullOf top number ≡ top + distanceOf number (top % sequenceNumbers) - sequenceNumbers
   unfolding fullOf
   full-far l = rw (behind (distanceOf number (top % sequenceNumbers)) l)
 

@@ -18,7 +18,7 @@ module _ {E : Type 0} where
   Once ps = (x p q : ℕ) → names x (at ps p) ≡ true → names x (at ps q) ≡ true → p ≡ q
 
   -- a place past the end names nothing
-  pub named-there : (ps : List (Place E)) (x k : ℕ) → names x (at ps k) ≡ true → k < length ps
+  named-there : (ps : List (Place E)) (x k : ℕ) → names x (at ps k) ≡ true → k < length ps
   named-there ps x k t =
       elim (decLt k (length ps)) [
         | yes l ↦ l
@@ -40,7 +40,7 @@ module _ {E : Type 0} where
         by (At k) e = absurd (n k (first-true (λ (i : ℕ). names x (at ps i)) (length ps) 0 k e))
         by Nothing e = refl
 
-    pub stream-at : Once ps → (k : ℕ) → names x (at ps k) ≡ true → streamIn ps x ≡ at ps k
+    stream-at : Once ps → (k : ℕ) → names x (at ps k) ≡ true → streamIn ps x ≡ at ps k
     stream-at once k t = by (findIn ps x) refl
       where
         by : (f : Found) → findIn ps x ≡ f → foundIn f ps ≡ at ps k

@@ -71,7 +71,7 @@ module _ {E C : Type 0} (M : Meaning E C) where
     named ssrc free r = rw r
     named ssrc (stream x top es) r = rw (r .place)
 
-    pub freed : (P : Place E) → ReadsAt M cells k h P → isFree h ≡ isVacant P
+    freed : (P : Place E) → ReadsAt M cells k h P → isFree h ≡ isVacant P
     freed free r = rw r
     freed (stream x top es) r = rw (r .place)
 
