@@ -1,7 +1,7 @@
 -- What the machine holds of each stream is what the stream's own history makes of it. Assumes nothing.
 use Prim.Native.Nat.{ℕ}
 use mathlib.Core.Path.{_≡_, refl, sym, ap, _∙_}
-use mathlib.Core.Bool.{Bool, true, false, cond, _&&_}
+use mathlib.Core.Bool.{Bool, true, false, cond}
 use mathlib.Core.List.{List, [], _∷_, _++_}
 use native.Mathlib.Decide.{ℕ-discrete}
 use borrow.Author.Tests.{eq-eqb, ne-eqb}
@@ -95,22 +95,10 @@ taken-seen (refused e) ps once = none-seen ps once
 -- ---- a registration
 module _ (ps : List (Place Entry)) (once : Once ps) (x number : ℕ) where
   -- an accepted one is one that happened to x, and a refused one did not happen
-  counted : (b : Bool) → cond b (sent number ∷ []) [] ≡ cond (b && true) (sent number ∷ []) []
-  counted true = refl
-  counted false = refl
-
-  uncounted : (b : Bool) → [] ≡ cond (b && false) (sent number ∷ []) []
-  uncounted true = refl
-  uncounted false = refl
-
   registered-seen : (o : ModelAfter Entry Registration) → Admitted (entryOf wasRegistered) ps once x number registration.Accepted registration.Refused o
       → Seen ps (o .places) (λ (y : ℕ). happenedBy y (register x number) (toRegistration (o .answer)))
-  registered-seen o (entered ps′ only) =
-      let s = one-seen ps once x (sent number) ps′ (rw (← sent-after x number (streamIn ps x)) only) in
-      record { once = s .once; each = λ y. s .each y ∙ ap (streamFrom y (streamIn ps y)) (counted (eqb x y)) }
-  registered-seen o (kept e) =
-      let s = none-seen ps once in
-      record { once = s .once; each = λ y. s .each y ∙ ap (streamFrom y (streamIn ps y)) (uncounted (eqb x y)) }
+  registered-seen o (entered ps′ only) = one-seen ps once x (sent number) ps′ (rw (← sent-after x number (streamIn ps x)) only)
+  registered-seen o (kept e) = none-seen ps once
 
 -- ---- every list of calls
 call-seen : (c : Call) (ps : List (Place Entry)) → Once ps → Seen ps (modelStep ps c) (λ (y : ℕ). happenedBy y c (modelAnswer ps c))

@@ -1,7 +1,7 @@
 -- Rules: "What a sender's store means", rule "History of a sent stream". A stream by itself: what
 -- its own accepted registrations and the reports on it make of it, whatever comes for others.
 use Prim.Native.Nat.{ℕ, max}
-use mathlib.Core.Bool.{Bool, true, false, cond, _&&_}
+use mathlib.Core.Bool.{cond}
 use mathlib.Core.Path.{_≡_}
 use mathlib.Core.List.{List, [], _∷_, _++_}
 use lib.Dec.{eqb, leb}
@@ -31,14 +31,11 @@ abbrev pub heardAs : ℕ → Decoded → List Happened
 heardAs ssrc (packet p) = heardIn ssrc (p .rts) (reportsOf (p .blocks))
 heardAs ssrc (refused e) = []
 
-abbrev pub isAccepted : CallAnswer → Bool
-isAccepted (toRegistration registration.Accepted) = true
-isAccepted (toRegistration (registration.Refused e)) = false
-isAccepted (toTakingIn t) = false
-
--- what one call with its answer adds
+-- what one call with its answer adds; the answer to taking in is none to a registration
 abbrev pub happenedBy : ℕ → Call → CallAnswer → List Happened
-happenedBy ssrc (register x number) a = cond (eqb x ssrc && isAccepted a) (sent number ∷ []) []
+happenedBy ssrc (register x number) (toRegistration registration.Accepted) = cond (eqb x ssrc) (sent number ∷ []) []
+happenedBy ssrc (register x number) (toRegistration (registration.Refused e)) = []
+happenedBy ssrc (register x number) (toTakingIn t) = []
 happenedBy ssrc (takeIn s) a = heardAs ssrc (decodePacket s)
 
 -- rule "History of a sent stream", from all calls to a fresh store, and the answers to them
