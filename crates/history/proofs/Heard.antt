@@ -12,8 +12,8 @@ use Rattle.metric.specs.Metric.{congested}
 use Rattle.metric.specs.declared.Time.{Time}
 use Rattle.streams.specs.Full.{fullOf, firstFull}
 use Rattle.streams.specs.Model.{Place, free, stream, ModelAfter, findIn, streamIn, vacant}
-use Rattle.streams.proofs.Once.{Once}
-use Rattle.streams.proofs.Alone.{Only, Admitted, entered, kept, admitted-as, withOne, nextFull, found-only, vacant-once, vacant-stream}
+use Rattle.streams.specs.Alone.{Once, Only, nextFull, withOne, Admitted, entered, kept}
+use Rattle.streams.proofs.Alone.{admitted-as, found-only, vacant-once, vacant-stream}
 use Rattle.later_arrivals.specs.declared.Arrival.{Arrival}
 use Rattle.history.specs.Calls.{Call, arrive, forget, toArrival, toForgetting, Accepted, isDone, heard, heardAll}
 use Rattle.history.specs.Meaning.{Entry, entryOf, countFrom, topFrom, entriesOf, topOf}
@@ -90,7 +90,7 @@ module _ (ps : List (Place Entry)) (acc : ℕ → List Accepted) (K : Kept ps ac
     own-entry : withOne (entryOf new) x (streamIn ps x) (nextFull (streamIn ps x) number) ≡ placeBy x (heard x (acc x) call true)
     own-entry = rw (K .each x, own-arrival) (one-more x new (acc x))
 
-    admitted-kept : (o : ModelAfter Entry Arrival) → Admitted (entryOf new) ps (K .once) x number arrival.Accepted arrival.Refused o → Goal o
+    admitted-kept : (o : ModelAfter Entry Arrival) → Admitted (entryOf new) arrival.Accepted arrival.Refused ps x number o → Goal o
     admitted-kept o (entered ps′ only) =
         changed-kept call x ps′ (withOne (entryOf new) x (streamIn ps x) (nextFull (streamIn ps x) number)) only own-entry (λ y n. rw (ne-eqb x y n))
     admitted-kept o (kept e) = refused-kept call

@@ -12,8 +12,9 @@ use Rattle.lists.proofs.Cases.{never}
 use Rattle.metric.specs.declared.Metric.{Metric}
 use Rattle.streams.specs.Full.{fullOf, firstFull, isTooOld}
 use Rattle.streams.specs.Model.{Place, free, stream, highestIn, entriesIn}
+use Rattle.streams.specs.Alone.{withOne}
 use Rattle.sent_history.specs.Meaning.{Entry, Event, entryOf, wasRegistered, wasReported}
-use Rattle.sent_history.specs.Stream.{Happened, sent, heard, withEntry, streamAfter, streamFrom, streamBy}
+use Rattle.sent_history.specs.Stream.{Happened, sent, heard, streamAfter, streamFrom, streamBy}
 use Rattle.sent_history.specs.Stream.{sentIn, fullsFrom, topFrom, withFull, registeredIn, ByRegistrations}
 
 -- one more entry
@@ -48,7 +49,7 @@ module _ (ssrc : ℕ) where
         | no l ↦ rw (lt-leb (fullOf top number) top (omega arith)) (record { x′ = x; es′ = es; is = refl; same = refl })
       ]
     where
-      picked : fullOf top number ≤ top → (b : Bool) → Unmoved (cond b (stream x top es) (withEntry ssrc top es (wasReported m rts) (fullOf top number))) top es
+      picked : fullOf top number ≤ top → (b : Bool) → Unmoved (cond b (stream x top es) (withOne (entryOf (wasReported m rts)) ssrc (stream x top es) (fullOf top number))) top es
       picked l true = record { x′ = x; es′ = es; is = refl; same = refl }
       picked l false = record {
         x′ = ssrc;

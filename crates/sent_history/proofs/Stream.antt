@@ -7,11 +7,10 @@ use native.Mathlib.Decide.{ℕ-discrete}
 use borrow.Author.Tests.{eq-eqb, ne-eqb}
 use lib.Dec.{eqb}
 use Rattle.metric.specs.Metric.{decodeOf}
-use Rattle.metric.specs.declared.Metric.{Metric}
 use Rattle.reader.specs.Reading.{Decoded, packet, refused, decodePacket}
-use Rattle.streams.specs.Model.{Place, free, stream, ModelAfter, streamIn}
-use Rattle.streams.proofs.Once.{Once}
-use Rattle.streams.proofs.Alone.{Only, Admitted, entered, kept, admitted-as, withOne, nextFull, notedBy, noted-only}
+use Rattle.streams.specs.Model.{Place, ModelAfter, streamIn}
+use Rattle.streams.specs.Alone.{Once, Only, Admitted, entered, kept}
+use Rattle.streams.proofs.Alone.{admitted-as, noted-only}
 use Rattle.sent_register.specs.declared.Registration.{Registration}
 use Rattle.sent_block.specs.Reports.{Report, reportsOf}
 use Rattle.sent_history.specs.Calls.{Call, register, takeIn, toRegistration}
@@ -19,15 +18,6 @@ use Rattle.sent_history.specs.Meaning.{Entry, entryOf, wasRegistered, wa
 use Rattle.sent_history.specs.Model.{modelRegistered, noteReport, noteAll, modelTaken, modelStep, modelAnswer, modelRun, modelAnswers}
 use Rattle.sent_history.specs.Stream.{Happened, sent, heard, heardIn, heardAs, happenedBy, historyOf, streamAfter, streamFrom}
 use Rattle.sent_register.specs.declared.Registration.the-variants as registration
-
--- one more entry is what happened
-sent-after : (x number : ℕ) (P : Place Entry) → withOne (entryOf wasRegistered) x P (nextFull P number) ≡ streamAfter x P (sent number)
-sent-after x number free = refl
-sent-after x number (stream z top es) = refl
-
-heard-after : (x number : ℕ) (m : Metric) (rts : ℕ) (P : Place Entry) → notedBy (entryOf (wasReported m rts)) x P number ≡ streamAfter x P (heard number m rts)
-heard-after x number m rts free = refl
-heard-after x number m rts (stream z top es) = refl
 
 from-join : (ssrc : ℕ) (hs js : List Happened) (P : Place Entry) → streamFrom ssrc P (hs ++ js) ≡ streamFrom ssrc (streamFrom ssrc P hs) js
 unfolding streamFrom
@@ -68,8 +58,7 @@ report-seen : (rts : ℕ) (r : Report) (ps : List (Place Entry)) → Once ps
     → Seen ps (noteReport rts ps r) (λ (y : ℕ). cond (eqb (r .ssrc) y) (heard (r .number) (decodeOf (r .metric)) rts ∷ []) [])
 report-seen rts r ps once =
     one-seen ps once (r .ssrc) (heard (r .number) (decodeOf (r .metric)) rts) (noteReport rts ps r)
-    (rw (← heard-after (r .ssrc) (r .number) (decodeOf (r .metric)) rts (streamIn ps (r .ssrc)))
-    (noted-only (entryOf (wasReported (decodeOf (r .metric)) rts)) ps once (r .ssrc) (r .number)))
+    (noted-only (entryOf (wasReported (decodeOf (r .metric)) rts)) ps once (r .ssrc) (r .number))
 
 reports-seen : (rts : ℕ) (rs : List Report) (ps : List (Place Entry)) → Once ps → Seen ps (noteAll rts ps rs) (λ (y : ℕ). heardIn y rts rs)
 unfolding noteAll heardIn
@@ -95,9 +84,9 @@ taken-seen (refused e) ps once = none-seen ps once
 -- ---- a registration
 module _ (ps : List (Place Entry)) (once : Once ps) (x number : ℕ) where
   -- an accepted one is one that happened to x, and a refused one did not happen
-  registered-seen : (o : ModelAfter Entry Registration) → Admitted (entryOf wasRegistered) ps once x number registration.Accepted registration.Refused o
+  registered-seen : (o : ModelAfter Entry Registration) → Admitted (entryOf wasRegistered) registration.Accepted registration.Refused ps x number o
       → Seen ps (o .places) (λ (y : ℕ). happenedBy y (register x number) (toRegistration (o .answer)))
-  registered-seen o (entered ps′ only) = one-seen ps once x (sent number) ps′ (rw (← sent-after x number (streamIn ps x)) only)
+  registered-seen o (entered ps′ only) = one-seen ps once x (sent number) ps′ only
   registered-seen o (kept e) = none-seen ps once
 
 -- ---- every list of calls

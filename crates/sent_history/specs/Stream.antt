@@ -4,12 +4,13 @@ use Prim.Native.Nat.{ℕ, max}
 use mathlib.Core.Bool.{cond}
 use mathlib.Core.Path.{_≡_}
 use mathlib.Core.List.{List, [], _∷_, _++_}
-use lib.Dec.{eqb, leb}
+use lib.Dec.{eqb}
 use Rattle.metric.specs.Metric.{decodeOf}
 use Rattle.metric.specs.declared.Metric.{Metric}
 use Rattle.reader.specs.Reading.{Decoded, packet, refused, decodePacket}
-use Rattle.streams.specs.Full.{fullOf, firstFull, isTooOld}
-use Rattle.streams.specs.Model.{Place, free, stream, highestIn, entriesIn}
+use Rattle.streams.specs.Full.{fullOf, firstFull}
+use Rattle.streams.specs.Model.{Place, free, highestIn, entriesIn}
+use Rattle.streams.specs.Alone.{nextFull, withOne, notedBy}
 use Rattle.sent_block.specs.Reports.{Report, reportsOf}
 use Rattle.sent_history.specs.Calls.{Call, register, takeIn, CallAnswer, toRegistration, toTakingIn}
 use Rattle.sent_history.specs.Meaning.{Event, Entry, entryOf, wasRegistered, wasReported}
@@ -44,20 +45,11 @@ historyOf ssrc [] xs = []
 historyOf ssrc (c ∷ cs) [] = []
 historyOf ssrc (c ∷ cs) (x ∷ xs) = happenedBy ssrc c x ++ historyOf ssrc cs xs
 
--- the stream with one more entry
-abbrev pub withEntry : ℕ → ℕ → List Entry → Event → ℕ → Place Entry
-withEntry ssrc top es event full = stream ssrc (max top full) (es ++ (entryOf event full ∷ []))
-
 -- an accepted registration counts on, and takes a place for a new stream; a report is entered
 -- where its number is in the window
 abbrev pub streamAfter : ℕ → Place Entry → Happened → Place Entry
-streamAfter ssrc free (sent number) = withEntry ssrc 0 [] wasRegistered (firstFull number)
-streamAfter ssrc free (heard number m rts) = free
-streamAfter ssrc (stream x top es) (sent number) = withEntry ssrc top es wasRegistered (fullOf top number)
-streamAfter ssrc (stream x top es) (heard number m rts) =
-    cond (leb (fullOf top number) top)
-    (cond (isTooOld top (fullOf top number)) (stream x top es) (withEntry ssrc top es (wasReported m rts) (fullOf top number)))
-    (stream x top es)
+streamAfter ssrc P (sent number) = withOne (entryOf wasRegistered) ssrc P (nextFull P number)
+streamAfter ssrc P (heard number m rts) = notedBy (entryOf (wasReported m rts)) ssrc P number
 
 unfoldable pub streamFrom : ℕ → Place Entry → List Happened → Place Entry
 streamFrom ssrc P [] = P

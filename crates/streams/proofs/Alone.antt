@@ -1,24 +1,24 @@
 -- What a call makes of the stream that it names, and of no other, over any entries. Assumes nothing.
-use Prim.Native.Nat.{ℕ, _+_, _<_, max}
+use Prim.Native.Nat.{ℕ, _+_, _<_}
 use mathlib.Core.Path.{_≡_, refl, sym, ap, _∙_}
-use mathlib.Core.Bool.{true, cond, false≢true}
-use mathlib.Core.List.{List, [], _∷_, _++_}
+use mathlib.Core.Bool.{true, false≢true}
+use mathlib.Core.List.{List}
 use native.Mathlib.Omega.{arith}
 use native.Mathlib.Decide.{decLe}
 use borrow.Author.Tests.{le-leb, lt-leb, eq-eqb, eqb-true}
-use lib.Dec.{leb}
 use lib.ListN.{length, set}
 use Rattle.lists.specs.declared.Found.{Found}
 use Rattle.lists.proofs.First.{first-below, first-true}
 use Rattle.refusal.specs.declared.Refusal.{Refusal}
 use Rattle.ring.specs.Ring.{cellsOfAPlace}
-use Rattle.streams.specs.Full.{fullOf, firstFull, isTooOld}
-use Rattle.streams.specs.Model.{Place, free, stream, ModelAfter, modelAfter, names, isVacant, highestIn, entriesIn, at, findIn, vacantIn, foundIn, streamIn}
+use Rattle.streams.specs.Full.{fullOf, firstFull}
+use Rattle.streams.specs.Model.{Place, free, stream, names, isVacant, at, findIn, vacantIn, foundIn, streamIn}
 use Rattle.streams.specs.Model.{vacant, notedAt, notedIn, noted, laterAt, startedIn, admittedIn, admitted}
+use Rattle.streams.specs.Alone.{Once, Only, withOne, notedBy, Admitted, entered, kept}
 use Rattle.streams.proofs.Numbers.{too-old, not-too-old}
 use Rattle.streams.proofs.Places.{named-is, vacant-is, later-old, later-in, noted-ahead, noted-old, noted-in}
 use Rattle.streams.proofs.Fresh.{vacant-at}
-use Rattle.streams.proofs.Once.{Once, names-one, stream-none, lost, set-once, set-other, set-same, set-none}
+use Rattle.streams.proofs.Once.{names-one, stream-none, lost, set-once, set-other, set-same, set-none}
 use Rattle.lists.specs.declared.Found.the-variants.{At, Nothing}
 use Rattle.refusal.specs.declared.Refusal.the-variants.{NoFreePlace, TooOld}
 
@@ -34,12 +34,6 @@ module _ (E : Type 0) (n : ℕ) where
   vacant-stream x = stream-none (vacant n) x (unnamed x)
 
 module _ {E : Type 0} where
-  -- the places after a call on the stream x: still no SSRC in two places, x is P now, and any other stream what it was
-  pub record Only (ps : List (Place E)) (x : ℕ) (ps′ : List (Place E)) (P : Place E) : Type 0 where
-    pub once : Once ps′
-    pub own : streamIn ps′ x ≡ P
-    pub others : (y : ℕ) → (y ≡ x → ⊥) → streamIn ps′ y ≡ streamIn ps y
-
   module _ (ps : List (Place E)) (once : Once ps) (x : ℕ) where
     same-only : Only ps x ps (streamIn ps x)
     same-only = record { once = once; own = refl; others = λ y n. refl }
@@ -76,33 +70,16 @@ module _ {E : Type 0} where
     found-stream : (f : Found) → findIn ps x ≡ f → streamIn ps x ≡ foundIn f ps
     found-stream f e = ap (λ (g : Found). foundIn g ps) e
 
-  -- the full number of a number that moves the window of the stream, which was P
-  abbrev pub nextFull : Place E → ℕ → ℕ
-  nextFull free number = firstFull number
-  nextFull (stream x top es) number = fullOf top number
-
   module _ (entry : ℕ → E) where
-    -- the stream x, which was P, with one more entry
-    abbrev pub withOne : ℕ → Place E → ℕ → Place E
-    withOne x P full = stream x (max (highestIn P) full) (entriesIn P ++ (entry full ∷ []))
-
-    -- what is noted of a number
-    abbrev pub notedBy : ℕ → Place E → ℕ → Place E
-    notedBy x free number = free
-    notedBy x (stream z top es) number =
-        cond (leb (fullOf top number) top)
-        (cond (isTooOld top (fullOf top number)) (stream z top es) (withOne x (stream z top es) (fullOf top number)))
-        (stream z top es)
-
-    names-own : (x : ℕ) (P : Place E) (full y : ℕ) → names y (withOne x P full) ≡ true → y ≡ x
+    names-own : (x : ℕ) (P : Place E) (full y : ℕ) → names y (withOne entry x P full) ≡ true → y ≡ x
     names-own x P full y t = sym (eqb-true x y t)
 
     module _ (ps : List (Place E)) (once : Once ps) (x number : ℕ) where
-      pub noted-only : Only ps x (noted entry ps x number) (notedBy x (streamIn ps x) number)
+      pub noted-only : Only ps x (noted entry ps x number) (notedBy entry x (streamIn ps x) number)
       noted-only = by-search (findIn ps x) refl
         where
           at-place : (k top : ℕ) (es : List E) → findIn ps x ≡ At k → at ps k ≡ stream x top es
-              → Only ps x (notedAt entry ps k x (fullOf top number)) (notedBy x (stream x top es) number)
+              → Only ps x (notedAt entry ps k x (fullOf top number)) (notedBy entry x (stream x top es) number)
           at-place k top es e held =
               let same : Only ps x ps (stream x top es) = rw (← held, ← found-stream ps once x (At k) e) (same-only ps once x) in
               elim (decLe (fullOf top number) top) [
@@ -123,30 +100,25 @@ module _ {E : Type 0} where
                             noted-in entry ps k x (fullOf top number) (rw held l) (rw held i),
                             held,
                           )
-                          (found-only ps once x k e (withOne x (stream x top es) (fullOf top number)) (names-own x (stream x top es) (fullOf top number)))
+                          (found-only ps once x k e (withOne entry x (stream x top es) (fullOf top number)) (names-own x (stream x top es) (fullOf top number)))
                     ]
                 | no l ↦
                     let h : top < fullOf top number = omega arith in
                     rw (lt-leb (fullOf top number) top h, noted-ahead entry ps k x (fullOf top number) (rw held h)) same
               ]
 
-          by-search : (f : Found) → findIn ps x ≡ f → Only ps x (notedIn entry f ps x number) (notedBy x (foundIn f ps) number)
+          by-search : (f : Found) → findIn ps x ≡ f → Only ps x (notedIn entry f ps x number) (notedBy entry x (foundIn f ps) number)
           by-search (At k) e =
               let n = named-is x (at ps k) (first-true (λ (i : ℕ). names x (at ps i)) (length ps) 0 k e) in
               rw (n .1 .1) (at-place k (n .0) (n .1 .0) e (n .1 .1))
           by-search Nothing e = rw (← found-stream ps once x Nothing e) (same-only ps once x)
 
       module _ {A : Type 0} (accepted : A) (refused : Refusal → A) where
-        -- accepted, and the stream has one more entry; or refused, and nothing changed
-        pub data Admitted : ModelAfter E A → Type 0 where
-          entered : (ps′ : List (Place E)) → Only ps x ps′ (withOne x (streamIn ps x) (nextFull (streamIn ps x) number)) → Admitted (modelAfter accepted ps′)
-          kept : (e : Refusal) → Admitted (modelAfter (refused e) ps)
-
-        pub admitted-as : Admitted (admitted accepted refused entry ps x number)
+        pub admitted-as : Admitted entry accepted refused ps x number (admitted accepted refused entry ps x number)
         admitted-as = by-search (findIn ps x) refl
           where
             at-place : (k top : ℕ) (es : List E) → findIn ps x ≡ At k → at ps k ≡ stream x top es
-                → Admitted (laterAt accepted refused entry ps k x (fullOf top number))
+                → Admitted entry accepted refused ps x number (laterAt accepted refused entry ps k x (fullOf top number))
             at-place k top es e held =
                 let s : streamIn ps x ≡ stream x top es = found-stream ps once x (At k) e ∙ held in
                 elim (decLe (fullOf top number + cellsOfAPlace) top) [
@@ -154,20 +126,20 @@ module _ {E : Type 0} where
                   | no h ↦
                       let i : top < fullOf top number + cellsOfAPlace = omega arith in
                       rw (later-in entry ps k x (fullOf top number) accepted refused (rw held i), held)
-                      (entered (set ps k (withOne x (stream x top es) (fullOf top number)))
-                      (rw s (found-only ps once x k e (withOne x (stream x top es) (fullOf top number)) (names-own x (stream x top es) (fullOf top number)))))
+                      (entered (set ps k (withOne entry x (stream x top es) (fullOf top number)))
+                      (rw s (found-only ps once x k e (withOne entry x (stream x top es) (fullOf top number)) (names-own x (stream x top es) (fullOf top number)))))
                 ]
 
-            opened : (f : Found) → vacantIn ps ≡ f → findIn ps x ≡ Nothing → Admitted (startedIn accepted refused entry f ps x number)
+            opened : (f : Found) → vacantIn ps ≡ f → findIn ps x ≡ Nothing → Admitted entry accepted refused ps x number (startedIn accepted refused entry f ps x number)
             opened (At k) v e =
                 let n : at ps k ≡ free = vacant-is (at ps k) (first-true (λ (i : ℕ). isVacant (at ps i)) (length ps) 0 k v) in
                 rw n
-                (entered (set ps k (withOne x free (firstFull number)))
+                (entered (set ps k (withOne entry x free (firstFull number)))
                 (rw (found-stream ps once x Nothing e)
-                (vacant-only ps once x k e v (withOne x free (firstFull number)) (names-own x free (firstFull number)))))
+                (vacant-only ps once x k e v (withOne entry x free (firstFull number)) (names-own x free (firstFull number)))))
             opened Nothing v e = kept NoFreePlace
 
-            by-search : (f : Found) → findIn ps x ≡ f → Admitted (admittedIn accepted refused entry f ps x number)
+            by-search : (f : Found) → findIn ps x ≡ f → Admitted entry accepted refused ps x number (admittedIn accepted refused entry f ps x number)
             by-search (At k) e =
                 let n = named-is x (at ps k) (first-true (λ (i : ℕ). names x (at ps i)) (length ps) 0 k e) in
                 rw (n .1 .1) (at-place k (n .0) (n .1 .0) e (n .1 .1))

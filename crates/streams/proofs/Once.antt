@@ -11,12 +11,10 @@ use lib.Seq.{getD-set-same, getD-set-other}
 use Rattle.lists.specs.declared.Found.{Found}
 use Rattle.lists.proofs.First.{first-true, first-false}
 use Rattle.streams.specs.Model.{Place, free, stream, names, at, findIn, foundIn, streamIn}
+use Rattle.streams.specs.Alone.{Once}
 use Rattle.lists.specs.declared.Found.the-variants.{At, Nothing}
 
 module _ {E : Type 0} where
-  abbrev pub Once : List (Place E) → Type 0
-  Once ps = (x p q : ℕ) → names x (at ps p) ≡ true → names x (at ps q) ≡ true → p ≡ q
-
   -- a place past the end names nothing
   named-there : (ps : List (Place E)) (x k : ℕ) → names x (at ps k) ≡ true → k < length ps
   named-there ps x k t =

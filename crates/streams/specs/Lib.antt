@@ -1,4 +1,5 @@
 pub mod Full
 pub mod Model
 pub mod Reading
+pub mod Alone
 pub mod Runs
