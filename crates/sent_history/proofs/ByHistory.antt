@@ -14,7 +14,7 @@ use Rattle.ring.specs.Ring.{cellsOfAPlace}
 use Rattle.window.specs.Number.{sequenceNumbers}
 use Rattle.places.specs.Place.{placeAt, isStream, findOf}
 use Rattle.place_window.specs.Window.{cellAt}
-use Rattle.streams.specs.Full.{fullOf}
+use Rattle.streams.specs.Full.{fullOf, fullsOf, topOf}
 use Rattle.streams.specs.Model.{Place, stream, names, at, findIn, foundIn, streamIn, highestIn, entriesIn, vacant}
 use Rattle.streams.specs.Reading.{Store, Fresh, Holds, Reads}
 use Rattle.streams.proofs.Numbers.{full-behind}
@@ -29,7 +29,7 @@ use Rattle.sent_history.specs.Calls.{Call, CallAnswer, senderRun, sender
 use Rattle.sent_history.specs.Meaning.{Entry, shownBy, AsReported}
 use Rattle.sent_history.specs.Model.{modelRun, modelAnswers, modelStatus, modelAsked}
 use Rattle.sent_history.specs.Reading.{sentMeaning}
-use Rattle.sent_history.specs.Stream.{Happened, historyOf, streamFrom, streamBy, sentIn, fullsOf, topOf}
+use Rattle.sent_history.specs.Stream.{Happened, historyOf, streamFrom, streamBy, sentIn}
 use Rattle.sent_history.proofs.Sentences.{as-reported, as-reported-once}
 use Rattle.sent_history.proofs.Stream.{run-seen}
 use Rattle.sent_history.proofs.Registrations.{by-registrations, registered-have, registered-are}

@@ -10,12 +10,12 @@ use native.Mathlib.Decide.{decLe}
 use borrow.Author.Tests.{le-leb, lt-leb}
 use Rattle.lists.proofs.Cases.{never}
 use Rattle.metric.specs.declared.Metric.{Metric}
-use Rattle.streams.specs.Full.{fullOf, firstFull, isTooOld}
+use Rattle.streams.specs.Full.{fullOf, firstFull, isTooOld, fullsFrom, topFrom}
 use Rattle.streams.specs.Model.{Place, free, stream, highestIn, entriesIn}
 use Rattle.streams.specs.Alone.{withOne}
 use Rattle.sent_history.specs.Meaning.{Entry, Event, entryOf, wasRegistered, wasReported}
 use Rattle.sent_history.specs.Stream.{Happened, sent, heard, streamAfter, streamFrom, streamBy}
-use Rattle.sent_history.specs.Stream.{sentIn, fullsFrom, topFrom, withFull, registeredIn, ByRegistrations}
+use Rattle.sent_history.specs.Stream.{sentIn, withFull, registeredIn, ByRegistrations}
 
 -- one more entry
 registered-last : (es : List Entry) (e : Entry) → registeredIn (es ++ (e ∷ [])) ≡ registeredIn es ++ withFull (e .event) (e .full) []

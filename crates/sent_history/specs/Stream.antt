@@ -1,6 +1,6 @@
 -- Rules: "What a sender's store means", rule "History of a sent stream". A stream by itself: what
 -- its own accepted registrations and the reports on it make of it, whatever comes for others.
-use Prim.Native.Nat.{ℕ, max}
+use Prim.Native.Nat.{ℕ}
 use mathlib.Core.Bool.{cond}
 use mathlib.Core.Path.{_≡_}
 use mathlib.Core.List.{List, [], _∷_, _++_}
@@ -8,7 +8,7 @@ use lib.Dec.{eqb}
 use Rattle.metric.specs.Metric.{decodeOf}
 use Rattle.metric.specs.declared.Metric.{Metric}
 use Rattle.reader.specs.Reading.{Decoded, packet, refused, decodePacket}
-use Rattle.streams.specs.Full.{fullOf, firstFull}
+use Rattle.streams.specs.Full.{fullsOf, topOf}
 use Rattle.streams.specs.Model.{Place, free, highestIn, entriesIn}
 use Rattle.streams.specs.Alone.{nextFull, withOne, notedBy}
 use Rattle.sent_block.specs.Reports.{Report, reportsOf}
@@ -66,23 +66,6 @@ abbrev pub sentIn : List Happened → List ℕ
 sentIn [] = []
 sentIn (sent number ∷ hs) = number ∷ sentIn hs
 sentIn (heard number m rts ∷ hs) = sentIn hs
-
--- their full numbers, and the highest after them
-unfoldable pub fullsFrom : ℕ → List ℕ → List ℕ
-fullsFrom top [] = []
-fullsFrom top (number ∷ more) = let full = fullOf top number in full ∷ fullsFrom (max top full) more
-
-unfoldable pub topFrom : ℕ → List ℕ → ℕ
-topFrom top [] = top
-topFrom top (number ∷ more) = topFrom (max top (fullOf top number)) more
-
-abbrev pub fullsOf : List ℕ → List ℕ
-fullsOf [] = []
-fullsOf (number ∷ more) = firstFull number ∷ fullsFrom (firstFull number) more
-
-abbrev pub topOf : List ℕ → ℕ
-topOf [] = 0
-topOf (number ∷ more) = topFrom (firstFull number) more
 
 -- the full numbers of the entries that are registrations, in their order
 abbrev pub withFull : Event → ℕ → List ℕ → List ℕ

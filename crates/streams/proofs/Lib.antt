@@ -1,4 +1,5 @@
 pub mod Numbers
+pub mod Fulls
 pub mod Cells
 pub mod Places
 pub mod Admission

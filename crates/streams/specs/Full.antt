@@ -1,7 +1,8 @@
 -- Rules: "What a store means", rule "Full number". A full number is a sequence number, but without
 -- wrapping.
-use Prim.Native.Nat.{ℕ, _+_, _-_, _%_}
+use Prim.Native.Nat.{ℕ, _+_, _-_, _%_, max}
 use mathlib.Core.Bool.{Bool, cond}
+use mathlib.Core.List.{List, [], _∷_}
 use lib.Dec.{leb}
 use Rattle.ring.specs.Ring.{cellsOfAPlace}
 use Rattle.window.specs.Number.{distanceOf, sequenceNumbers, farthestAhead}
@@ -29,3 +30,23 @@ lowestFull = sequenceNumbers - (cellsOfAPlace - 1)
 -- rule "Too old": the full number is below the window of the 2,048 highest
 abbrev pub isTooOld : ℕ → ℕ → Bool
 isTooOld top full = leb (full + cellsOfAPlace) top
+
+-- ---- the full numbers of sequence numbers that are counted on in a row, and the highest
+
+-- from a highest full number on
+unfoldable pub fullsFrom : ℕ → List ℕ → List ℕ
+fullsFrom top [] = []
+fullsFrom top (number ∷ more) = let full = fullOf top number in full ∷ fullsFrom (max top full) more
+
+unfoldable pub topFrom : ℕ → List ℕ → ℕ
+topFrom top [] = top
+topFrom top (number ∷ more) = topFrom (max top (fullOf top number)) more
+
+-- from the first of a stream on
+abbrev pub fullsOf : List ℕ → List ℕ
+fullsOf [] = []
+fullsOf (number ∷ more) = firstFull number ∷ fullsFrom (firstFull number) more
+
+abbrev pub topOf : List ℕ → ℕ
+topOf [] = 0
+topOf (number ∷ more) = topFrom (firstFull number) more
