@@ -2,8 +2,9 @@
 use Prim.Native.Nat.{ℕ, _+_, _-_, _%_, _<_, _≤_, max}
 use mathlib.Core.Path.{_≡_, refl, sym, ap, subst, _∙_}
 use mathlib.Core.Bool.{Bool, true, false, cond, _&&_, false≢true}
-use mathlib.Core.List.{List, [], _∷_, _++_, map, List·Memᴰ, List·Memᴰ·head, List·Memᴰ·tail}
-use mathlib.Core.Logic.{_⊎_, inl, inr, ⊎-elim}
+use mathlib.Core.List.{List, [], _∷_, _++_, map, map-map}
+use mathlib.Core.List.{List·Memᴰ, List·Memᴰ·head, List·Memᴰ·tail, List·Memᴰ·not-nil, List·Memᴰ·cases-cons}
+use mathlib.Core.Logic.{⊎-elim}
 use native.Mathlib.Omega.{arith}
 use native.Mathlib.Decide.{decLe}
 use borrow.Author.Tests.{lt-ltb, eq-eqb}
@@ -12,7 +13,7 @@ use lib.ListN.{length}
 use Rattle.lists.specs.All.{All}
 use Rattle.lists.specs.declared.Found.{Found}
 use Rattle.lists.proofs.First.{first-true}
-use Rattle.lists.proofs.All.{all-append, all-zip}
+use Rattle.lists.proofs.All.{all-map, all-over, all-append, all-zip}
 use Rattle.lists.proofs.Cases.{never}
 use Rattle.metric.specs.declared.Time.{Time}
 use Rattle.places.specs.Place.{placeAt, isStream, findOf}
@@ -25,17 +26,18 @@ use Rattle.cell_metrics.specs.Metrics.{cellMetric}
 use Rattle.streams.specs.Full.{fullOf, firstFull}
 use Rattle.streams.specs.Model.{Place, free, names, at, foundIn, vacant}
 use Rattle.streams.specs.Reading.{Store, Fresh}
-use Rattle.streams.proofs.Numbers.{full-low}
+use Rattle.streams.proofs.Fulls.{fulls-kept, top-attained}
 use Rattle.streams.proofs.Places.{named, find-same}
 use Rattle.streams.proofs.Fresh.{fresh-reads}
 use Rattle.history.specs.Calls.{Call, arrive, forget, CallAnswer, storeRun, storeAnswers, Accepted, acceptedOf, isDone, heard, heardAll, CallInRange}
-use Rattle.history.specs.Meaning.{Entry, entryOf, countFrom, topFrom, entriesOf, topOf, AsArrivals, EntryInRange, AcceptedInRange}
+use Rattle.history.specs.Meaning.{Entry, countFrom, entriesOf, topOf, AsArrivals, EntryInRange, AcceptedInRange}
 use Rattle.history.specs.Model.{modelPlace, modelStep, modelAnswer, modelRun, modelAnswers}
 use Rattle.history.specs.Reading.{arrivalMeaning, Holds, Reads}
 use Rattle.history.specs.Alone.{SameStream, unheld, held}
 use Rattle.history.proofs.Filled.{as-arrivals}
 use Rattle.history.proofs.Simulation.{place-alike, simulates}
 use Rattle.history.proofs.Heard.{placeBy, Kept, run-kept, vacant-kept}
+use Rattle.history.proofs.Numbers.{top-of-numbers, fulls-of-numbers}
 use Rattle.metric.specs.Metric.{congested, TimeInRange}
 use Rattle.window.specs.Number.{sequenceNumbers}
 use Rattle.ring.specs.Ring.{cellsOfAPlace}
@@ -70,17 +72,12 @@ run-range y [] ps l r h = h
 run-range y (c ∷ cs) ps l r h = run-range y cs (modelStep ps c) (heard y l c (isDone (modelAnswer ps c))) (r .1) (heard-range y l ps c (r .0) h)
 
 -- the low 16 bits of the full numbers are the sequence numbers of the arrivals
-count-numbers : (l : List Accepted) (top : ℕ) → sequenceNumbers ≤ top → All AcceptedInRange l
-    → map (λ (e : Entry). e .full % sequenceNumbers) (countFrom top l) ≡ map (λ (a : Accepted). a .number) l
-unfolding countFrom
-count-numbers [] top g h = refl
-count-numbers (a ∷ l) top g h = rw (full-low top (a .number) g (h .0 .0), count-numbers l (max top (fullOf top (a .number))) (omega arith) (h .1))
-
 pub numbers-kept : (l : List Accepted) → All AcceptedInRange l → map (λ (e : Entry). e .full % sequenceNumbers) (entriesOf l) ≡ map (λ (a : Accepted). a .number) l
-numbers-kept [] h = refl
-numbers-kept (a ∷ l) h =
-    let e : (sequenceNumbers + a .number) % sequenceNumbers ≡ a .number = omega (arith, h .0 .0) in
-    rw (e, count-numbers l (sequenceNumbers + a .number) (omega arith) (h .1))
+numbers-kept l h =
+    sym (map-map (λ (f : ℕ). f % sequenceNumbers) (λ (e : Entry). e .full) (entriesOf l))
+    ∙ ap (map (λ (f : ℕ). f % sequenceNumbers)) (fulls-of-numbers l)
+    ∙ fulls-kept (map (λ (a : Accepted). a .number) l)
+    (all-over (λ (n : ℕ). n < sequenceNumbers) (λ (a : Accepted). a .number) l (all-map l (λ a q. q .0) h))
 
 -- each entry has the mark and the time of its arrival
 abbrev MarkAndTimeInRange : Entry → Type 0
@@ -96,26 +93,17 @@ entries-kept [] h = tt
 entries-kept (a ∷ l) h = (h .0 .1, count-kept l (firstFull (a .number)) (h .1))
 
 -- the highest full number is that of an arrival
-abbrev Attained : ℕ → ℕ → List Entry → Type 0
-Attained top t es = (t ≡ top) ⊎ ((e : Entry) × (List·Memᴰ e es × (e .full ≡ t)))
-
-count-attained : (l : List Accepted) (top : ℕ) → Attained top (topFrom top l) (countFrom top l)
-unfolding countFrom topFrom
-count-attained [] top = inl refl
-count-attained (a ∷ l) top = ⊎-elim (λ h. here h) (λ h. inr (h .0, (List·Memᴰ·tail (h .1 .0), h .1 .1))) (count-attained l (max top (fullOf top (a .number))))
+entry-of-full : (es : List Entry) (n : ℕ) → List·Memᴰ n (map (λ (e : Entry). e .full) es) → (e : Entry) × (List·Memᴰ e es × (e .full ≡ n))
+entry-of-full [] n m = absurd (List·Memᴰ·not-nil m)
+entry-of-full (e ∷ es) n m = ⊎-elim (λ h. (e, (List·Memᴰ·head refl, sym h))) (λ h. later (entry-of-full es n h)) (List·Memᴰ·cases-cons m)
   where
-    here : topFrom (max top (fullOf top (a .number))) l ≡ max top (fullOf top (a .number))
-        → Attained top (topFrom (max top (fullOf top (a .number))) l) (entryOf a (fullOf top (a .number)) ∷ countFrom (max top (fullOf top (a .number))) l)
-    here h =
-        elim (decLe (fullOf top (a .number)) top) [
-          | yes q ↦ inl (omega arith)
-          | no q ↦ inr (entryOf a (fullOf top (a .number)), (List·Memᴰ·head refl, omega arith))
-        ]
+    later : (d : Entry) × (List·Memᴰ d es × (d .full ≡ n)) → (d : Entry) × (List·Memᴰ d (e ∷ es) × (d .full ≡ n))
+    later h = (h .0, (List·Memᴰ·tail (h .1 .0), h .1 .1))
 
 pub highest-attained : (a : Accepted) (l : List Accepted) → (e : Entry) × (List·Memᴰ e (entriesOf (a ∷ l)) × (e .full ≡ topOf (a ∷ l)))
 highest-attained a l =
-    ⊎-elim (λ h. (entryOf a (firstFull (a .number)), (List·Memᴰ·head refl, sym h)))
-    (λ h. (h .0, (List·Memᴰ·tail (h .1 .0), h .1 .1))) (count-attained l (firstFull (a .number)))
+    entry-of-full (entriesOf (a ∷ l)) (topOf (a ∷ l))
+    (rw (fulls-of-numbers (a ∷ l), top-of-numbers (a ∷ l)) (top-attained (a .number) (map (λ (x : Accepted). x .number) l)))
 
 -- ---- every list of calls to a fresh store
 module _ (st : Store) (new : Fresh st) (cs : List Call) (range : All CallInRange cs) where
