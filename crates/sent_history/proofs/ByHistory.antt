@@ -87,8 +87,9 @@ module _ (st : Store) (new : Fresh st) (cs : List Call) (range : All CallInRange
     abbrev history : List Happened
     history = historyOf ssrc cs (senderAnswers st cs)
 
+    -- its highest full number goes by the accepted registrations alone
     abbrev top : ℕ
-    top = highestIn (streamBy ssrc history)
+    top = topOf (sentIn history)
 
     abbrev entries : List Entry
     entries = entriesIn (streamBy ssrc history)
@@ -121,15 +122,18 @@ module _ (st : Store) (new : Fresh st) (cs : List Call) (range : All CallInRange
       pub some-sent : sentIn history ≡ [] → ⊥
       some-sent e = let f = sym (by-registrations ssrc history .none e) ∙ held-there .1 .1 .1 in never (cc)
 
+      top-there : top ≡ held-there .0
+      top-there = sym (by-registrations ssrc history .highest) ∙ ap highestIn (held-there .1 .1 .1)
+
       -- its highest number, and each cell of its window, are as its history says
       pub held-by-history : Holds sentMeaning (after .cells) p (placeAt (after .places) p) ssrc top entries
       held-by-history =
           let h = held-there in
-          rw (h .1 .1 .1) (rw (h .1 .1 .0) at (same-reading .each p))
+          rw (top-there, h .1 .1 .1) (rw (h .1 .1 .0) at (same-reading .each p))
 
       -- its highest number is the highest of the accepted registrations
-      pub highest-by-history : placeAt (after .places) p ≡ Held ssrc (topOf (sentIn history) % sequenceNumbers)
-      highest-by-history = held-by-history .place ∙ ap (λ (t : ℕ). Held ssrc (t % sequenceNumbers)) (by-registrations ssrc history .highest)
+      pub highest-by-history : placeAt (after .places) p ≡ Held ssrc (top % sequenceNumbers)
+      highest-by-history = held-by-history .place
 
       -- each word of the window says what was reported, sentence by sentence
       pub word-by-history : (n : ℕ) → n ≤ top → top < n + cellsOfAPlace → AsReported (readWord (cellAt (after .cells) p n)) entries n
@@ -143,7 +147,7 @@ module _ (st : Store) (new : Fresh st) (cs : List Call) (range : All CallInRange
           let same = as-reported-once entries n s (shownBy entries n) r (as-reported entries n) in
           status-by-history (n % sequenceNumbers) (omega arith)
           ∙ rw (same, e)
-          (window-status ssrc (held-there .0) n (held-there .1 .0) (rw e at (held-by-history .begun)) (rw e at a) (rw e at b))
+          (window-status ssrc (held-there .0) n (held-there .1 .0) (rw top-there at (held-by-history .begun)) (rw top-there at a) (rw top-there at b))
 
       -- 37 is not the answer about a number of the window exactly if an accepted registration had its full number
       pub known-if-sent : (n : ℕ) → n ≤ top → top < n + cellsOfAPlace → List·Memᴰ n (fullsOf (sentIn history))
