@@ -13,6 +13,8 @@ use Rattle.lists.proofs.First.{first-true}
 use Rattle.ring.specs.Ring.{cellsOfAPlace}
 use Rattle.window.specs.Number.{sequenceNumbers}
 use Rattle.places.specs.Place.{placeAt, isStream, findOf}
+use Rattle.places.specs.Held.{HeldAt}
+use Rattle.places.proofs.Held.{found-held, held-found, lost-unheld, unheld-lost}
 use Rattle.place_window.specs.Window.{cellAt}
 use Rattle.streams.specs.Full.{fullOf, fullsOf, topOf}
 use Rattle.streams.specs.Model.{Place, stream, names, at, findIn, foundIn, streamIn, highestIn, entriesIn, vacant}
@@ -30,6 +32,7 @@ use Rattle.sent_history.specs.Meaning.{Entry, shownBy, AsReported}
 use Rattle.sent_history.specs.Model.{modelRun, modelAnswers, modelStatus, modelAsked}
 use Rattle.sent_history.specs.Reading.{sentMeaning}
 use Rattle.sent_history.specs.Stream.{Happened, historyOf, streamFrom, streamBy, sentIn}
+use Rattle.sent_history.specs.Alone.{SameStream}
 use Rattle.sent_history.proofs.Sentences.{as-reported, as-reported-once}
 use Rattle.sent_history.proofs.Stream.{run-seen}
 use Rattle.sent_history.proofs.Registrations.{by-registrations, registered-have, registered-are}
@@ -171,12 +174,45 @@ module _ (st : Store) (new : Fresh st) (cs : List Call) (range : All CallInRange
           known sent.NotRegistered e = never (cc)
           known (sent.Registered t) e = let q : t ≡ s = cc in ap sent.Registered q
 
--- two fresh stores with the same history of a stream say the same of each of its numbers
-module _ (st st′ : Store) (new : Fresh st) (new′ : Fresh st′) (cs cs′ : List Call) (range : All CallInRange cs) (range′ : All CallInRange cs′) where
-  pub same-stream : (ssrc : ℕ) → historyOf ssrc cs (senderAnswers st cs) ≡ historyOf ssrc cs′ (senderAnswers st′ cs′)
-      → (number : ℕ) → number < sequenceNumbers
-      → statusAsked (senderRun st cs .places) (senderRun st cs .cells) ssrc number ≡ statusAsked (senderRun st′ cs′ .places) (senderRun st′ cs′ .cells) ssrc number
-  same-stream ssrc same number low =
-      status-by-history st new cs range ssrc number low
-      ∙ ap (λ (hs : List Happened). modelStatus (streamBy ssrc hs) number) same
-      ∙ sym (status-by-history st′ new′ cs′ range′ ssrc number low)
+    -- no registration of it was accepted: no place holds the stream
+    pub none-held : sentIn history ≡ [] → findOf (after .places) ssrc ≡ Nothing
+    none-held e = by-search (findOf (after .places) ssrc) refl
+      where
+        by-search : (f : Found) → findOf (after .places) ssrc ≡ f → f ≡ Nothing
+        by-search (At p) found = absurd (some-sent p found e)
+        by-search Nothing found = refl
+
+-- two fresh stores with the same history of a stream say the same of it
+module _ (st st′ : Store) (new : Fresh st) (new′ : Fresh st′) (cs cs′ : List Call) (range : All CallInRange cs) (range′ : All CallInRange cs′)
+    (ssrc : ℕ) (same : historyOf ssrc cs (senderAnswers st cs) ≡ historyOf ssrc cs′ (senderAnswers st′ cs′)) where
+  not-held-too : findOf (senderRun st cs .places) ssrc ≡ Nothing → findOf (senderRun st′ cs′ .places) ssrc ≡ Nothing
+  not-held-too e = none-held st′ new′ cs′ range′ ssrc (ap sentIn (sym same) ∙ not-held st new cs range ssrc e)
+
+  held-too : (p highest : ℕ) → HeldAt (senderRun st cs .places) ssrc p highest → (q : ℕ) × HeldAt (senderRun st′ cs′ .places) ssrc q highest
+  held-too p highest H = by-search (findOf (senderRun st′ cs′ .places) ssrc) refl
+    where
+      found : findOf (senderRun st cs .places) ssrc ≡ At p
+      found = held-found (senderRun st cs .places) ssrc p highest H .0
+
+      by-search : (f : Found) → findOf (senderRun st′ cs′ .places) ssrc ≡ f → (q : ℕ) × HeldAt (senderRun st′ cs′ .places) ssrc q highest
+      by-search (At q) e =
+          let here = highest-by-history st new cs range ssrc p found in
+          let there = highest-by-history st′ new′ cs′ range′ ssrc q e in (
+            q,
+            record {
+              holds = there ∙ ap (λ (hs : List Happened). Held ssrc (topOf (sentIn hs) % sequenceNumbers)) (sym same) ∙ sym here ∙ H .holds;
+              first = found-held (senderRun st′ cs′ .places) ssrc q e .first;
+            },
+          )
+      by-search Nothing e =
+          absurd (some-sent st new cs range ssrc p found (ap sentIn same ∙ not-held st′ new′ cs′ range′ ssrc e))
+
+  pub same-stream : SameStream (senderRun st cs) (senderRun st′ cs′) ssrc
+  same-stream = record {
+    unheld = λ n. lost-unheld (senderRun st′ cs′ .places) ssrc (not-held-too (unheld-lost (senderRun st cs .places) ssrc n));
+    held = held-too;
+    statuses = λ number low.
+        status-by-history st new cs range ssrc number low
+        ∙ ap (λ (hs : List Happened). modelStatus (streamBy ssrc hs) number) same
+        ∙ sym (status-by-history st′ new′ cs′ range′ ssrc number low);
+  }

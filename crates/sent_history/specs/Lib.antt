@@ -3,4 +3,5 @@ pub mod Meaning
 pub mod Model
 pub mod Reading
 pub mod Stream
+pub mod Alone
 pub mod Starred
