@@ -2,6 +2,7 @@ pub mod Events
 pub mod Lawful
 pub mod Sentences
 pub mod Stream
+pub mod Reports
 pub mod Simulation
 pub mod Registrations
 pub mod ByHistory

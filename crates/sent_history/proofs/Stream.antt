@@ -77,7 +77,7 @@ reports-seen rts (r ∷ rs) ps once =
     picked true h hs = refl
     picked false h hs = refl
 
-taken-seen : (d : Decoded) (ps : List (Place Entry)) → Once ps → Seen ps (modelTaken d ps .places) (λ (y : ℕ). heardAs y d)
+pub taken-seen : (d : Decoded) (ps : List (Place Entry)) → Once ps → Seen ps (modelTaken d ps .places) (λ (y : ℕ). heardAs y d)
 taken-seen (packet p) ps once = reports-seen (p .rts) (reportsOf (p .blocks)) ps once
 taken-seen (refused e) ps once = none-seen ps once
 

@@ -4,11 +4,11 @@ use Prim.Native.Nat.{ℕ}
 use mathlib.Core.Bool.{cond}
 use mathlib.Core.Path.{_≡_}
 use mathlib.Core.List.{List, [], _∷_, _++_}
-use lib.Dec.{eqb}
+use lib.Dec.{eqb, leb}
 use Rattle.metric.specs.Metric.{decodeOf}
 use Rattle.metric.specs.declared.Metric.{Metric}
 use Rattle.reader.specs.Reading.{Decoded, packet, refused, decodePacket}
-use Rattle.streams.specs.Full.{fullsOf, topOf}
+use Rattle.streams.specs.Full.{fullOf, isTooOld, fullsOf, topOf}
 use Rattle.streams.specs.Model.{Place, free, highestIn, entriesIn}
 use Rattle.streams.specs.Alone.{nextFull, withOne, notedBy}
 use Rattle.sent_block.specs.Reports.{Report, reportsOf}
@@ -58,6 +58,20 @@ streamFrom ssrc P (h ∷ hs) = streamFrom ssrc (streamAfter ssrc P h) hs
 -- what the stream is after its history
 abbrev pub streamBy : ℕ → List Happened → Place Entry
 streamBy ssrc hs = streamFrom ssrc free hs
+
+-- ---- what was heard of a held stream by itself: a packet moves no window
+
+-- a report by the window of the highest full number top: its entry, or none where its number is not in the window
+abbrev pub reportedEntry : ℕ → ℕ → Metric → ℕ → List Entry
+reportedEntry top number m rts =
+    let full = fullOf top number in
+    cond (leb full top) (cond (isTooOld top full) [] (entryOf (wasReported m rts) full ∷ [])) []
+
+-- all that was heard, in its order
+unfoldable pub reportedEntries : ℕ → List Happened → List Entry
+reportedEntries top [] = []
+reportedEntries top (sent number ∷ hs) = reportedEntries top hs
+reportedEntries top (heard number m rts ∷ hs) = reportedEntry top number m rts ++ reportedEntries top hs
 
 -- ---- the registrations of a history by themselves
 
