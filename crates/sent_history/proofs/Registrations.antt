@@ -1,21 +1,20 @@
 -- What is registered of a stream, and its highest, go by its accepted registrations alone. Assumes nothing.
-use Prim.Native.Nat.{ℕ, _≤_, max}
+use Prim.Native.Nat.{ℕ, max}
 use mathlib.Core.Path.{_≡_, refl, sym, ap, _∙_}
 use mathlib.Core.Bool.{Bool, true, false, cond}
 use mathlib.Core.List.{List, [], _∷_, _++_, append-nil, append-assoc}
 use mathlib.Core.List.{List·Memᴰ, List·Memᴰ·head, List·Memᴰ·tail, List·Memᴰ·not-nil, List·Memᴰ·cases-cons}
 use mathlib.Core.Logic.{⊎-elim}
 use native.Mathlib.Omega.{arith}
-use native.Mathlib.Decide.{decLe}
-use borrow.Author.Tests.{le-leb, lt-leb}
+use lib.Dec.{leb}
 use Rattle.lists.proofs.Cases.{never}
 use Rattle.metric.specs.declared.Metric.{Metric}
 use Rattle.streams.specs.Full.{fullOf, firstFull, isTooOld, fullsFrom, topFrom}
 use Rattle.streams.specs.Model.{Place, free, stream, highestIn, entriesIn}
-use Rattle.streams.specs.Alone.{withOne}
 use Rattle.sent_history.specs.Meaning.{Entry, Event, entryOf, wasRegistered, wasReported}
-use Rattle.sent_history.specs.Stream.{Happened, sent, heard, streamAfter, streamFrom, streamBy}
+use Rattle.sent_history.specs.Stream.{Happened, sent, heard, streamFrom, streamBy, reportedEntry}
 use Rattle.sent_history.specs.Stream.{sentIn, withFull, registeredIn, ByRegistrations}
+use Rattle.sent_history.proofs.Reports.{reported-entry}
 
 -- one more entry
 registered-last : (es : List Entry) (e : Entry) → registeredIn (es ++ (e ∷ [])) ≡ registeredIn es ++ withFull (e .event) (e .full) []
@@ -34,36 +33,22 @@ record Grown (P : Place Entry) (top : ℕ) (es : List Entry) (numbers : List ℕ
   pub highest : highestIn P ≡ topFrom top numbers
   pub entered : registeredIn (entriesIn P) ≡ registeredIn es ++ fullsFrom top numbers
 
+-- a report registers nothing
+registered-same : (es : List Entry) (top number : ℕ) (m : Metric) (rts : ℕ) → registeredIn (es ++ reportedEntry top number m rts) ≡ registeredIn es
+registered-same es top number m rts = picked (leb (fullOf top number) top) (isTooOld top (fullOf top number))
+  where
+    picked : (a b : Bool) → registeredIn (es ++ cond a (cond b [] (entryOf (wasReported m rts) (fullOf top number) ∷ [])) []) ≡ registeredIn es
+    picked true true = ap registeredIn (append-nil es)
+    picked true false = registered-last es (entryOf (wasReported m rts) (fullOf top number)) ∙ append-nil (registeredIn es)
+    picked false b = ap registeredIn (append-nil es)
+
 module _ (ssrc : ℕ) where
-  -- what is heard of a held stream moves nothing and registers nothing
-  record Unmoved (P : Place Entry) (top : ℕ) (es : List Entry) : Type 0 where
-    pub x′ : ℕ
-    pub es′ : List Entry
-    pub is : P ≡ stream x′ top es′
-    pub same : registeredIn es′ ≡ registeredIn es
-
-  heard-unmoved : (x top : ℕ) (es : List Entry) (number : ℕ) (m : Metric) (rts : ℕ) → Unmoved (streamAfter ssrc (stream x top es) (heard number m rts)) top es
-  heard-unmoved x top es number m rts =
-      elim (decLe (fullOf top number) top) [
-        | yes l ↦ rw (le-leb (fullOf top number) top l) (picked l (isTooOld top (fullOf top number)))
-        | no l ↦ rw (lt-leb (fullOf top number) top (omega arith)) (record { x′ = x; es′ = es; is = refl; same = refl })
-      ]
-    where
-      picked : fullOf top number ≤ top → (b : Bool) → Unmoved (cond b (stream x top es) (withOne (entryOf (wasReported m rts)) ssrc (stream x top es) (fullOf top number))) top es
-      picked l true = record { x′ = x; es′ = es; is = refl; same = refl }
-      picked l false = record {
-        x′ = ssrc;
-        es′ = es ++ (entryOf (wasReported m rts) (fullOf top number) ∷ []);
-        is = let h : max top (fullOf top number) ≡ top = omega arith in rw h;
-        same = registered-last es (entryOf (wasReported m rts) (fullOf top number)) ∙ append-nil (registeredIn es);
-      }
-
-  grown : (hs : List Happened) (x top : ℕ) (es : List Entry) → Grown (streamFrom ssrc (stream x top es) hs) top es (sentIn hs)
+  grown : (hs : List Happened) (top : ℕ) (es : List Entry) → Grown (streamFrom ssrc (stream ssrc top es) hs) top es (sentIn hs)
   unfolding streamFrom topFrom fullsFrom
-  grown [] x top es = record { held = λ e. never (cc); highest = refl; entered = sym (append-nil (registeredIn es)) }
-  grown (sent number ∷ hs) x top es =
+  grown [] top es = record { held = λ e. never (cc); highest = refl; entered = sym (append-nil (registeredIn es)) }
+  grown (sent number ∷ hs) top es =
       let full = fullOf top number in
-      let g = grown hs ssrc (max top full) (es ++ (entryOf wasRegistered full ∷ [])) in
+      let g = grown hs (max top full) (es ++ (entryOf wasRegistered full ∷ [])) in
       record {
         held = g .held;
         highest = g .highest;
@@ -72,14 +57,13 @@ module _ (ssrc : ℕ) where
             ∙ ap (λ (l : List ℕ). l ++ fullsFrom (max top full) (sentIn hs)) (registered-last es (entryOf wasRegistered full))
             ∙ append-assoc (registeredIn es) (full ∷ []) (fullsFrom (max top full) (sentIn hs));
       }
-  grown (heard number m rts ∷ hs) x top es =
-      let u = heard-unmoved x top es number m rts in
-      let g = grown hs (u .x′) top (u .es′) in
-      rw (u .is)
+  grown (heard number m rts ∷ hs) top es =
+      let g = grown hs top (es ++ reportedEntry top number m rts) in
+      rw (reported-entry ssrc top es number m rts)
       (record {
         held = g .held;
         highest = g .highest;
-        entered = g .entered ∙ ap (λ (l : List ℕ). l ++ fullsFrom top (sentIn hs)) (u .same);
+        entered = g .entered ∙ ap (λ (l : List ℕ). l ++ fullsFrom top (sentIn hs)) (registered-same es top number m rts);
       })
 
   pub by-registrations : (hs : List Happened) → ByRegistrations (streamBy ssrc hs) (sentIn hs)
@@ -87,7 +71,7 @@ module _ (ssrc : ℕ) where
   by-registrations [] = record { none = λ e. refl; some = λ e. refl; highest = refl; entered = refl }
   by-registrations (sent number ∷ hs) =
       let first : max 0 (firstFull number) ≡ firstFull number = omega arith in
-      let g = grown hs ssrc (firstFull number) (entryOf wasRegistered (firstFull number) ∷ []) in
+      let g = grown hs (firstFull number) (entryOf wasRegistered (firstFull number) ∷ []) in
       rw first (record { none = λ e. never (cc); some = λ e. absurd (g .held e); highest = g .highest; entered = g .entered })
   by-registrations (heard number m rts ∷ hs) = by-registrations hs
 
