@@ -106,28 +106,24 @@ fn received_word(metric: u16, rts: u32) -> u64
 }
 
 // A cell's word after a metric of its number, in a packet with that RTS.
-// Branch-free on purpose: over many metrics these branches are unpredictable and cost time. The choice by kind comes
-// after those by the metric: the other way round it is compiled to a jump.
+// Branch-free on purpose: over many metrics these branches are unpredictable and cost time. The last choice is by one
+// number, since two tests in a row are compiled to a jump.
 pub fn word_reported(word: u64, metric: u16, rts: u32) -> u64
     ensures value { λ r. ⌜ r ≡ wordReported metric rts word ⌝ }
 {
     let kind = word % KINDS;
     let received = received_word(metric, rts);
-    // What the metric leaves of a number that was not reported yet, and of one that was.
-    let first = if metric < RECEIVED_BIT {
-        MISSING
+    // What a metric where R = 0 leaves; a number that is not registered is left so by any metric.
+    let missing = if kind == NOT_REPORTED { MISSING } else { word };
+    // The kind of a word that the metric enters as received, or else NOT_REGISTERED.
+    let entered = if metric < RECEIVED_BIT {
+        NOT_REGISTERED
+    } else {
+        kind
+    };
+    if entered == NOT_REGISTERED {
+        missing
     } else {
         received
-    };
-    let later = if metric < RECEIVED_BIT {
-        word
-    } else {
-        received
-    };
-    let reported = if kind == NOT_REPORTED { first } else { later };
-    if NOT_REGISTERED < kind {
-        reported
-    } else {
-        word
     }
 }
