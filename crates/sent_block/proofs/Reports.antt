@@ -44,6 +44,11 @@ module _ (p highest rts : ℕ) (cells : List ℕ) (number metric : ℕ) where
   reportedAt-past l =
       rw (past-window (distanceOf highest number) metric rts (cellAt cells p number) l) (set-getD cells (cellIndex p number) 0)
 
+  pub reportedAt-in : distanceOf highest number < cellsOfAPlace
+      → reportedAt p highest rts cells number metric ≡ updated (wordReported metric rts) cells p number
+  unfolding updated
+  reportedAt-in l = rw (in-window (distanceOf highest number) metric rts (cellAt cells p number) l)
+
   -- two numbers of the window have cells of their own
   apart : (m : ℕ) → highest < sequenceNumbers → number < sequenceNumbers → m < sequenceNumbers
       → distanceOf highest number < cellsOfAPlace → distanceOf highest m < cellsOfAPlace

@@ -1,12 +1,21 @@
 -- The steps of the code: a block whose place is found once. No statement for a caller needs these.
-use Prim.Native.Nat.{ℕ, _+_, _%_}
+use Prim.Native.Nat.{ℕ, _+_, _-_, _%_, min}
 use mathlib.Core.List.{List, [], _∷_}
 use Rattle.lists.specs.declared.Found.{Found}
+use Rattle.ring.specs.Ring.{cellsOfAPlace}
 use Rattle.window.specs.Number.{sequenceNumbers}
 use Rattle.places.specs.Place.{highestAt, findOf}
 use Rattle.packet.specs.Packet.{Block}
 use Rattle.sent_block.specs.Reports.{reportedAt}
 use Rattle.lists.specs.declared.Found.the-variants.{At, Nothing}
+
+-- the metrics of a block whose numbers are in the window, where the highest number is d above that of
+-- metric 0: from the first up to the end, of n
+abbrev pub firstInWindow : ℕ → ℕ
+firstInWindow d = d - (cellsOfAPlace - 1)
+
+abbrev pub endInWindow : ℕ → ℕ → ℕ
+endInWindow d n = min n (d + 1)
 
 -- metrics of a block, starting with metric j
 unfoldable pub enteredFrom : ℕ → ℕ → ℕ → List ℕ → ℕ → ℕ → List ℕ → List ℕ

@@ -6,12 +6,12 @@ use Rattle.sent_block.proofs.report.Tie as tie
 
 returns : tie.Need-returns
 unfolding updated
-returns c = rw (c .word-in-window .ensures, c .before .before .distance .ensures, c .before .before .before .cell-index .ensures)
+returns c = rw (c .word-reported .ensures, c .before .before .cell-index .ensures)
 
 pub report-spec : {M : Type 1} → statement M
 report-spec =
     tie.close
     (tie.spec
-    (λ c κs. search needs) (λ c κs. search needs) (λ c. search needs) (λ c. search needs) (λ c κs. search needs)
-    (λ c. search needs) (λ c. search needs) (λ c. search needs)
+    (λ c κs. search needs) (λ c. search needs) (λ c. search needs) (λ c κs. search needs) (λ c. search needs)
+    (λ c. search needs) (λ c. search needs)
     returns)

@@ -6,7 +6,7 @@ use native.Mathlib.Omega.{arith}
 use lib.ListN.{length}
 use Rattle.walk.specs.Walk.{walkFrom}
 use Rattle.walk.proofs.Steps.{inside, next-more}
-use Rattle.reports.proofs.Within.{within}
+use Rattle.reports.proofs.Within.{within, few-reports}
 use Rattle.sent_feedback.specs.Steps.{NotStopped, blocksTaken}
 use Rattle.sent_feedback.proofs.Steps.{block-sound, block-turn, blocks-end, blocks-never}
 use borrow.Author.Needs.{needs}
@@ -29,7 +29,8 @@ take-block-requires : tie.Need-take-block-requires Inv-loop μ-loop
 take-block-requires c κs =
     let at-loop = c .before .before .before .before .before in
     let start = at-loop .before .before .before .before in
-    (at-loop .loop .inv .0 ∙ start .pre .0, within _ _ _ _ (sym (c .before .before .before .before .next .ensures) ∙ c .before .before .here .given .1))
+    let e = sym (c .before .before .before .before .next .ensures) ∙ c .before .before .here .given .1 in
+    (at-loop .loop .inv .0 ∙ start .pre .0, (within _ _ _ _ e, few-reports _ _ _ _ e))
 
 loop-less : tie.Need-loop-less Inv-loop μ-loop
 loop-less c =
