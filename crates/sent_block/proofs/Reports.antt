@@ -38,7 +38,7 @@ module _ (p highest rts : ℕ) (cells : List ℕ) (number metric : ℕ) where
   unfolding updated
   reportedAt-other i n = getD-set-other cells (cellIndex p number) i _ 0 n
 
-  -- a number that is not in the window changes nothing
+  -- a number outside the window changes nothing
   pub reportedAt-past : cellsOfAPlace ≤ distanceOf highest number → reportedAt p highest rts cells number metric ≡ cells
   unfolding updated
   reportedAt-past l =

@@ -27,11 +27,12 @@ use Rattle.streams.proofs.Numbers.{too-old, not-too-old, full-ahead, full-behin
 use Rattle.streams.proofs.Places.{named-is, find-same}
 use Rattle.streams.proofs.Admission.{note-alike, note-lost, admit-alike}
 use Rattle.streams.proofs.Runs.{simulated}
-use Rattle.sent_word.specs.Word.{readWord, registeredWord, wordReported}
+use Rattle.sent_word.specs.Word.{registeredWord, wordReported}
 use Rattle.sent_block.specs.Reports.{Report, reportsFrom, reportsOf, reportedAt, reportedIn, reported, allReported}
 use Rattle.sent_block.proofs.Reports.{in-window, reportedAt-past}
 use Rattle.sent_feedback.specs.TakeIn.{takenAs}
 use Rattle.sent_status.specs.Status.{answerOf, statusAt, askedAt, statusAsked}
+use Rattle.sent_status.proofs.Calls.{status-past, status-within}
 use Rattle.sent_status.specs.declared.StatusAnswer.{StatusAnswer}
 use Rattle.sent_history.specs.Calls.{Call, register, takeIn, toRegistration, toTakingIn, senderStep, senderAnswer, senderRun, senderAnswers, CallInRange}
 use Rattle.sent_history.specs.Meaning.{Entry, wasRegistered, wasReported, entryOf, shownBy}
@@ -131,15 +132,6 @@ module _ (top full : ℕ) (es : List Entry) where
   shown-old : full + cellsOfAPlace ≤ top → shownAt top full es ≡ answer.Refused NotRegistered
   unfolding shownAt
   shown-old a = ap unless (le-leb full top (omega arith)) ∙ ap within (too-old top full a)
-
-module _ (cells : List ℕ) (k number b : ℕ) where
-  status-within : b < cellsOfAPlace → statusAt cells k number b ≡ answerOf (readWord (cellAt cells k number))
-  unfolding statusAt
-  status-within l = rw (lt-leb cellsOfAPlace b l)
-
-  status-past : cellsOfAPlace ≤ b → statusAt cells k number b ≡ answer.Refused NotRegistered
-  unfolding statusAt
-  status-past l = rw (le-leb cellsOfAPlace b l)
 
 module _ (st : Store) (ps : List (Place Entry)) (R : Reads sentMeaning st ps) (ssrc number : ℕ) (low : number < sequenceNumbers) where
   status-held : (k top : ℕ) (es : List Entry) → at ps k ≡ stream ssrc top es

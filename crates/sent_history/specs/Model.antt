@@ -1,6 +1,6 @@
 -- Rules: "What a sender's store means". The meaning as a machine of its own, the one of `streams`:
 -- it keeps for each stream its highest full number, the full numbers registered, and what was
--- reported, in order, with the full number that the window gives it then.
+-- reported, in its order, each under the full number that it had at that moment.
 use Prim.Native.Nat.{ℕ}
 use mathlib.Core.Bool.{cond}
 use mathlib.Core.List.{List, [], _∷_}
@@ -54,7 +54,7 @@ modelRun ps cs = run modelStep modelAnswer ps cs
 abbrev pub modelAnswers : List (Place Entry) → List Call → List CallAnswer
 modelAnswers ps cs = answers modelStep modelAnswer ps cs
 
--- what is known of a full number of a stream: 37 where it is not in the window, or not registered
+-- what is known of a full number of a stream: 37 outside the window, and for what was never registered
 unfoldable pub shownAt : ℕ → ℕ → List Entry → StatusAnswer
 shownAt top full es =
     cond (leb full top)

@@ -34,7 +34,7 @@ pub data RegistrationGiven (places cells : List ℕ) (ssrc number : ℕ) : Store
   shaped : Shaped places cells → (o : StoreAfter Registration)
       → AdmissionGiven registration.Accepted registration.Refused places cells ssrc number o → RegistrationGiven places cells ssrc number o
 
--- asking: 4, 5, then 37 where the number is not in the window, or not registered
+-- asking: 4, 5, then 37 outside the window, and for what was never registered
 pub data StatusGiven (places cells : List ℕ) (ssrc number : ℕ) : StatusAnswer → Type 0 where
   badStore : Misshapen places cells → StatusGiven places cells ssrc number (answer.Refused BadStore)
   notHeld : Shaped places cells → Unheld places ssrc → StatusGiven places cells ssrc number (answer.Refused NotHeld)
