@@ -1,11 +1,11 @@
 -- A report changes the cell of its own number alone, and there are as many cells as before. Assumes nothing.
-use Prim.Native.Nat.{ℕ, _≤_, _<_}
+use Prim.Native.Nat.{ℕ, _+_, _*_, _≤_, _<_}
 use mathlib.Core.Path.{_≡_, refl, ap, _∙_}
 use mathlib.Core.List.{List, [], _∷_, _++_}
 use native.Mathlib.Omega.{arith}
 use borrow.Author.Tests.{le-leb, lt-leb}
 use lib.ListN.{length, getD, length-set}
-use lib.Seq.{getD-set-other, set-getD}
+use lib.Seq.{getD-set-same, getD-set-other, set-getD}
 use Rattle.lists.specs.declared.Found.{Found}
 use Rattle.lists.proofs.Cases.{split-le}
 use Rattle.ring.specs.Ring.{cellsOfAPlace}
@@ -13,7 +13,7 @@ use Rattle.window.specs.Number.{sequenceNumbers, distanceOf}
 use Rattle.places.specs.Place.{highestAt, findOf}
 use Rattle.place_window.specs.Window.{cellIndex, cellAt, updated}
 use Rattle.sent_word.specs.Word.{wordReported}
-use Rattle.sent_block.specs.Reports.{Report, wordInWindow, reportedAt, reportedIn, reported, allReported}
+use Rattle.sent_block.specs.Reports.{NumberReport, wordInWindow, reportedAt, reportedFound, reported, allReported}
 use Rattle.lists.specs.declared.Found.the-variants.{At, Nothing}
 
 -- ---- the word of a cell
@@ -64,7 +64,7 @@ module _ (p highest rts : ℕ) (cells : List ℕ) (number metric : ℕ) where
       (λ a. reportedAt-other (cellIndex p m) (apart m h l k a b n))
 
 module _ (places : List ℕ) (rts : ℕ) where
-  module _ (cells : List ℕ) (r : Report) where
+  module _ (cells : List ℕ) (r : NumberReport) where
     pub reported-held : (p : ℕ) → findOf places (r .ssrc) ≡ At p
         → reported places rts cells r ≡ reportedAt p (highestAt places p) rts cells (r .number) (r .metric)
     unfolding reported
@@ -78,7 +78,7 @@ module _ (places : List ℕ) (rts : ℕ) where
     unfolding reported
     length-reported = by-place (findOf places (r .ssrc))
       where
-        by-place : (f : Found) → length (reportedIn f places rts cells (r .number) (r .metric)) ≡ length cells
+        by-place : (f : Found) → length (reportedFound f places rts cells (r .number) (r .metric)) ≡ length cells
         by-place (At p) = length-reportedAt p (highestAt places p) rts cells (r .number) (r .metric)
         by-place Nothing = refl
 
@@ -88,7 +88,7 @@ module _ (places : List ℕ) (rts : ℕ) where
     unfolding reported
     reported-other i n = by-place (findOf places (r .ssrc)) refl
       where
-        by-place : (f : Found) → findOf places (r .ssrc) ≡ f → getD (reportedIn f places rts cells (r .number) (r .metric)) i 0 ≡ getD cells i 0
+        by-place : (f : Found) → findOf places (r .ssrc) ≡ f → getD (reportedFound f places rts cells (r .number) (r .metric)) i 0 ≡ getD cells i 0
         by-place (At p) e = reportedAt-other p (highestAt places p) rts cells (r .number) (r .metric) i (n p e)
         by-place Nothing e = refl
 
@@ -100,19 +100,28 @@ module _ (places : List ℕ) (rts : ℕ) where
         rw (reported-held p e)
         (reportedAt-number p (highestAt places p) rts cells (r .number) (r .metric) m (omega arith) l k b n)
 
+    -- its own word is as the metric leaves it, where the number is in the window
+    pub reported-own : (p : ℕ) → findOf places (r .ssrc) ≡ At p → cellsOfAPlace * p + cellsOfAPlace ≤ length cells
+        → distanceOf (highestAt places p) (r .number) < cellsOfAPlace
+        → cellAt (reported places rts cells r) p (r .number) ≡ wordReported (r .metric) rts (cellAt cells p (r .number))
+    unfolding updated
+    reported-own p e room l =
+        rw (reported-held p e, reportedAt-in p (highestAt places p) rts cells (r .number) (r .metric) l)
+        (getD-set-same cells (cellIndex p (r .number)) _ 0 (omega arith))
+
     pub reported-past : (p : ℕ) → findOf places (r .ssrc) ≡ At p → cellsOfAPlace ≤ distanceOf (highestAt places p) (r .number)
         → reported places rts cells r ≡ cells
     reported-past p e l = reported-held p e ∙ reportedAt-past p (highestAt places p) rts cells (r .number) (r .metric) l
 
   -- ---- reports one after the other
 
-  pub reported-append : (rs qs : List Report) (cells : List ℕ)
+  pub reported-append : (rs qs : List NumberReport) (cells : List ℕ)
       → allReported places rts cells (rs ++ qs) ≡ allReported places rts (allReported places rts cells rs) qs
   unfolding allReported
   reported-append [] qs cells = refl
   reported-append (r ∷ rs) qs cells = reported-append rs qs (reported places rts cells r)
 
-  pub length-allReported : (rs : List Report) (cells : List ℕ) → length (allReported places rts cells rs) ≡ length cells
+  pub length-allReported : (rs : List NumberReport) (cells : List ℕ) → length (allReported places rts cells rs) ≡ length cells
   unfolding allReported
   length-allReported [] cells = refl
   length-allReported (r ∷ rs) cells = length-allReported rs (reported places rts cells r) ∙ length-reported cells r

@@ -16,7 +16,7 @@ use Rattle.packet.specs.Packet.{Block}
 use Rattle.packet.specs.Sizes.{mostReports}
 use Rattle.reader.specs.Reading.{metricsAt}
 use Rattle.sent_word.specs.Word.{wordReported}
-use Rattle.sent_block.specs.Reports.{Report, reportsFrom, reportedAt, allReported}
+use Rattle.sent_block.specs.Reports.{NumberReport, reportsFrom, reportedAt, allReported}
 use Rattle.sent_block.specs.Steps.{firstInWindow, endInWindow, enteredFrom, blockEntered, blockTakenAt, blockTaken}
 use Rattle.sent_block.proofs.Reports.{reportedAt-past, reportedAt-in, reported-held, reported-none}
 use Rattle.lists.specs.declared.Found.the-variants.{At, Nothing}
@@ -130,7 +130,7 @@ module _ (s : List ℕ) (p highest rts begin from n : ℕ) (cells : List ℕ) wh
 
 module _ (places : List ℕ) (rts : ℕ) where
   module _ (ssrc begin : ℕ) where
-    abbrev first : ℕ → ℕ → Report
+    abbrev first : ℕ → ℕ → NumberReport
     first j m = record { ssrc = ssrc; number = (begin + j) % sequenceNumbers; metric = m }
 
     entered-held : (p : ℕ) → findOf places ssrc ≡ At p → (ms : List ℕ) (j : ℕ) (cells : List ℕ)

@@ -14,7 +14,7 @@ use Rattle.reader.specs.Reading.{Decoded, packet, refused}
 use Rattle.streams.specs.Full.{fullOf, isTooOld}
 use Rattle.streams.specs.Model.{Place, free, stream, streamIn}
 use Rattle.streams.specs.Alone.{Once, withOne}
-use Rattle.sent_block.specs.Reports.{Report, reportsOf}
+use Rattle.sent_block.specs.Reports.{NumberReport, reportsOf}
 use Rattle.sent_history.specs.Meaning.{Entry, entryOf, wasReported}
 use Rattle.sent_history.specs.Model.{modelTaken}
 use Rattle.sent_history.specs.Stream.{Happened, sent, heard, heardIn, heardAs, streamAfter, streamFrom, reportedEntry, reportedEntries, sentIn}
@@ -56,7 +56,7 @@ reported-free ssrc (heard number m rts ∷ hs) e = reported-free ssrc hs e
 
 -- ---- a packet
 -- it registers nothing
-none-sent-in : (ssrc rts : ℕ) (rs : List Report) → sentIn (heardIn ssrc rts rs) ≡ []
+none-sent-in : (ssrc rts : ℕ) (rs : List NumberReport) → sentIn (heardIn ssrc rts rs) ≡ []
 unfolding heardIn
 none-sent-in ssrc rts [] = refl
 none-sent-in ssrc rts (r ∷ rs) = picked (eqb (r .ssrc) ssrc) (none-sent-in ssrc rts rs)

@@ -17,7 +17,6 @@ use Rattle.window.specs.Number.{distanceOf, sequenceNumbers, farthestAhead}
 use Rattle.places.specs.Place.{placeAt, highestAt, findOf}
 use Rattle.places.proofs.Held.{held-highest}
 use Rattle.places.proofs.Shape.{shaped-is}
-use Rattle.place_window.specs.Window.{cellAt, updated}
 use Rattle.packet.specs.Packet.{Block}
 use Rattle.reader.specs.Reading.{Decoded, packet, refused, decodePacket}
 use Rattle.streams.specs.Full.{fullOf, isTooOld}
@@ -28,8 +27,8 @@ use Rattle.streams.proofs.Places.{named-is, find-same}
 use Rattle.streams.proofs.Admission.{note-alike, note-lost, admit-alike}
 use Rattle.streams.proofs.Runs.{simulated}
 use Rattle.sent_word.specs.Word.{registeredWord, wordReported}
-use Rattle.sent_block.specs.Reports.{Report, reportsFrom, reportsOf, reportedAt, reportedIn, reported, allReported}
-use Rattle.sent_block.proofs.Reports.{in-window, reportedAt-past}
+use Rattle.sent_block.specs.Reports.{NumberReport, reportsFrom, reportsOf, reportedAt, reportedFound, reported, allReported}
+use Rattle.sent_block.proofs.Reports.{reportedAt-past, reportedAt-in}
 use Rattle.sent_feedback.specs.TakeIn.{takenAs}
 use Rattle.sent_status.specs.Status.{answerOf, statusAt, askedAt, statusAsked}
 use Rattle.sent_status.proofs.Calls.{status-past, status-within}
@@ -46,28 +45,23 @@ use Rattle.sent_register.specs.declared.Registration.the-variants as registrati
 use Rattle.sent_status.specs.declared.StatusAnswer.the-variants as answer
 
 -- ---- one report
-reportedAt-within : (p highest rts : ℕ) (cells : List ℕ) (number m : ℕ) → distanceOf highest number < cellsOfAPlace
-    → reportedAt p highest rts cells number m ≡ updated (wordReported m rts) cells p number
-unfolding updated
-reportedAt-within p highest rts cells number m l = rw (in-window (distanceOf highest number) m rts (cellAt cells p number) l)
-
 abbrev with : Store → List ℕ → Store
 with st cells = record { places = st .places; cells = cells }
 
-abbrev NumberLow : Report → Type 0
+abbrev NumberLow : NumberReport → Type 0
 NumberLow r = r .number < sequenceNumbers
 
-report-alike : (st : Store) (ps : List (Place Entry)) → Reads sentMeaning st ps → (rts : ℕ) (r : Report) → NumberLow r
+report-alike : (st : Store) (ps : List (Place Entry)) → Reads sentMeaning st ps → (rts : ℕ) (r : NumberReport) → NumberLow r
     → Reads sentMeaning (with st (reported (st .places) rts (st .cells) r)) (noteReport rts ps r)
 unfolding reported
 report-alike st ps R rts r low = by (findOf (st .places) (r .ssrc)) refl
   where
     by : (f : Found) → findOf (st .places) (r .ssrc) ≡ f
-        → Reads sentMeaning (with st (reportedIn f (st .places) rts (st .cells) (r .number) (r .metric))) (noteReport rts ps r)
+        → Reads sentMeaning (with st (reportedFound f (st .places) rts (st .cells) (r .number) (r .metric))) (noteReport rts ps r)
     by (At k) e =
         note-alike sentMeaning shown-lawful st ps R (wordReported (r .metric) rts) (entryOf (wasReported (decodeOf (r .metric)) rts)) (λ n. refl)
         (report-enters (r .metric) rts) (r .ssrc) (r .number) low k e (reportedAt k (highestAt (st .places) k) rts (st .cells) (r .number) (r .metric))
-        (reportedAt-within k (highestAt (st .places) k) rts (st .cells) (r .number) (r .metric))
+        (reportedAt-in k (highestAt (st .places) k) rts (st .cells) (r .number) (r .metric))
         (reportedAt-past k (highestAt (st .places) k) rts (st .cells) (r .number) (r .metric))
     by Nothing e =
         note-lost sentMeaning shown-lawful st ps R (wordReported (r .metric) rts) (entryOf (wasReported (decodeOf (r .metric)) rts)) (λ n. refl)
@@ -85,7 +79,7 @@ numbers-low [] = tt
 numbers-low (b ∷ bs) =
     all-join NumberLow (reportsFrom (b .ssrc) (b .begin) 0 (b .metrics)) (reportsOf bs) (from-low (b .ssrc) (b .begin) 0 (b .metrics)) (numbers-low bs)
 
-reports-alike : (rts : ℕ) (rs : List Report) → All NumberLow rs → (st : Store) (ps : List (Place Entry)) → Reads sentMeaning st ps
+reports-alike : (rts : ℕ) (rs : List NumberReport) → All NumberLow rs → (st : Store) (ps : List (Place Entry)) → Reads sentMeaning st ps
     → Reads sentMeaning (with st (allReported (st .places) rts (st .cells) rs)) (noteAll rts ps rs)
 unfolding allReported noteAll
 reports-alike rts [] l st ps R = R

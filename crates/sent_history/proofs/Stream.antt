@@ -12,7 +12,7 @@ use Rattle.streams.specs.Model.{Place, ModelAfter, streamIn}
 use Rattle.streams.specs.Alone.{Once, Only, Admitted, entered, kept}
 use Rattle.streams.proofs.Alone.{admitted-as, noted-only}
 use Rattle.sent_register.specs.declared.Registration.{Registration}
-use Rattle.sent_block.specs.Reports.{Report, reportsOf}
+use Rattle.sent_block.specs.Reports.{NumberReport, reportsOf}
 use Rattle.sent_history.specs.Calls.{Call, register, takeIn, toRegistration}
 use Rattle.sent_history.specs.Meaning.{Entry, entryOf, wasRegistered, wasReported}
 use Rattle.sent_history.specs.Model.{modelRegistered, noteReport, noteAll, modelTaken, modelStep, modelAnswer, modelRun, modelAnswers}
@@ -54,13 +54,13 @@ module _ (ps : List (Place Entry)) (once : Once ps) where
   }
 
 -- ---- reports
-report-seen : (rts : ℕ) (r : Report) (ps : List (Place Entry)) → Once ps
+report-seen : (rts : ℕ) (r : NumberReport) (ps : List (Place Entry)) → Once ps
     → Seen ps (noteReport rts ps r) (λ (y : ℕ). cond (eqb (r .ssrc) y) (heard (r .number) (decodeOf (r .metric)) rts ∷ []) [])
 report-seen rts r ps once =
     one-seen ps once (r .ssrc) (heard (r .number) (decodeOf (r .metric)) rts) (noteReport rts ps r)
     (noted-only (entryOf (wasReported (decodeOf (r .metric)) rts)) ps once (r .ssrc) (r .number))
 
-reports-seen : (rts : ℕ) (rs : List Report) (ps : List (Place Entry)) → Once ps → Seen ps (noteAll rts ps rs) (λ (y : ℕ). heardIn y rts rs)
+reports-seen : (rts : ℕ) (rs : List NumberReport) (ps : List (Place Entry)) → Once ps → Seen ps (noteAll rts ps rs) (λ (y : ℕ). heardIn y rts rs)
 unfolding noteAll heardIn
 reports-seen rts [] ps once = none-seen ps once
 reports-seen rts (r ∷ rs) ps once =

@@ -13,7 +13,7 @@ use Rattle.streams.specs.Runs.{run, answers}
 use Rattle.sent_register.specs.declared.Registration.{Registration}
 use Rattle.sent_status.specs.Status.{answerOf}
 use Rattle.sent_status.specs.declared.StatusAnswer.{StatusAnswer}
-use Rattle.sent_block.specs.Reports.{Report, reportsOf}
+use Rattle.sent_block.specs.Reports.{NumberReport, reportsOf}
 use Rattle.sent_feedback.specs.declared.TakingIn.{TakingIn}
 use Rattle.sent_history.specs.Calls.{Call, register, takeIn, CallAnswer, toRegistration, toTakingIn}
 use Rattle.sent_history.specs.Meaning.{Entry, entryOf, wasRegistered, wasReported, shownBy}
@@ -27,10 +27,10 @@ abbrev pub modelRegistered : List (Place Entry) → ℕ → ℕ → ModelAfter E
 modelRegistered ps ssrc number = admitted registration.Accepted registration.Refused (entryOf wasRegistered) ps ssrc number
 
 -- one report, and all of a packet
-abbrev pub noteReport : ℕ → List (Place Entry) → Report → List (Place Entry)
+abbrev pub noteReport : ℕ → List (Place Entry) → NumberReport → List (Place Entry)
 noteReport rts ps r = noted (entryOf (wasReported (decodeOf (r .metric)) rts)) ps (r .ssrc) (r .number)
 
-unfoldable pub noteAll : ℕ → List (Place Entry) → List Report → List (Place Entry)
+unfoldable pub noteAll : ℕ → List (Place Entry) → List NumberReport → List (Place Entry)
 noteAll rts ps [] = ps
 noteAll rts ps (r ∷ rs) = noteAll rts (noteReport rts ps r) rs
 

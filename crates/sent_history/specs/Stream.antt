@@ -11,7 +11,7 @@ use Rattle.reader.specs.Reading.{Decoded, packet, refused, decodePacket}
 use Rattle.streams.specs.Full.{fullOf, isTooOld, fullsOf, topOf}
 use Rattle.streams.specs.Model.{Place, free, highestIn, entriesIn}
 use Rattle.streams.specs.Alone.{nextFull, withOne, notedBy}
-use Rattle.sent_block.specs.Reports.{Report, reportsOf}
+use Rattle.sent_block.specs.Reports.{NumberReport, reportsOf}
 use Rattle.sent_history.specs.Calls.{Call, register, takeIn, CallAnswer, toRegistration, toTakingIn}
 use Rattle.sent_history.specs.Meaning.{Event, Entry, entryOf, wasRegistered, wasReported}
 use Rattle.sent_register.specs.declared.Registration.the-variants as registration
@@ -22,7 +22,7 @@ pub data Happened : Type 0 where
   heard : ℕ → Metric → ℕ → Happened
 
 -- the reports of a packet that name the stream
-unfoldable pub heardIn : ℕ → ℕ → List Report → List Happened
+unfoldable pub heardIn : ℕ → ℕ → List NumberReport → List Happened
 heardIn ssrc rts [] = []
 heardIn ssrc rts (r ∷ rs) =
     let rest = heardIn ssrc rts rs in
