@@ -32,6 +32,9 @@ pub const NOT_REPORTED: u64 = 1;
 
 const MISSING: u64 = 2;
 
+// A metric's R and a kind as one number: R_UNIT * R + kind.
+const R_UNIT: u16 = 4;
+
 // A received word is RECEIVED + METRIC_UNIT * metric + RTS_UNIT * RTS.
 const RECEIVED: u64 = 3;
 
@@ -106,24 +109,22 @@ fn received_word(metric: u16, rts: u32) -> u64
 }
 
 // A cell's word after a metric of its number, in a packet with that RTS.
-// Branch-free on purpose: over many metrics these branches are unpredictable and cost time. The last choice is by one
-// number, since two tests in a row are compiled to a jump.
+// Branch-free on purpose: over many metrics these branches are unpredictable and cost time. Both choices are by one
+// small number, and the rarer comes last: other forms are compiled to jumps.
 pub fn word_reported(word: u64, metric: u16, rts: u32) -> u64
     ensures value { λ r. ⌜ r ≡ wordReported metric rts word ⌝ }
 {
-    let kind = word % KINDS;
+    let both = (R_UNIT * (metric / RECEIVED_BIT)) as u32 + (word % KINDS) as u32;
     let received = received_word(metric, rts);
-    // What a metric where R = 0 leaves; a number that is not registered is left so by any metric.
-    let missing = if kind == NOT_REPORTED { MISSING } else { word };
-    // The kind of a word that the metric enters as received, or else NOT_REGISTERED.
-    let entered = if metric < RECEIVED_BIT {
-        NOT_REGISTERED
-    } else {
-        kind
-    };
-    if entered == NOT_REGISTERED {
-        missing
+    // Up to R_UNIT, either R = 0 or the number is not registered.
+    let entered = if both <= R_UNIT as u32 {
+        word
     } else {
         received
+    };
+    if both == NOT_REPORTED as u32 {
+        MISSING
+    } else {
+        entered
     }
 }
