@@ -74,6 +74,7 @@ fn held_status(word: u64) -> Status
 }
 
 // What a cell's word says.
+// The last test is by the lowest bit on purpose: tests for each kind are compiled to a table of jumps.
 pub fn read_word(word: u64) -> Sent
     ensures value { λ r. ⌜ r ≡ readWord word ⌝ }
 {
@@ -81,13 +82,13 @@ pub fn read_word(word: u64) -> Sent
     if kind == NOT_REGISTERED {
         return Sent::NotRegistered;
     }
-    if kind == NOT_REPORTED {
+    if kind == RECEIVED {
+        return Sent::Registered(held_status(word));
+    }
+    if word % 2 == NOT_REPORTED {
         return Sent::Registered(Status::NotReported);
     }
-    if kind == MISSING {
-        return Sent::Registered(Status::Missing);
-    }
-    Sent::Registered(held_status(word))
+    Sent::Registered(Status::Missing)
 }
 
 // A cell's word after its number was registered: what was reported stays.
