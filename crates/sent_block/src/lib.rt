@@ -55,7 +55,7 @@ fn enter_block(cells: &mut [u64], packet: &[u8], b: ReportBlock, p: usize, highe
     let end = end_in_window(d, n);
     let mut j = first_in_window(d);
     while j < end {
-        let metric = octets::get16(packet, from + 2 * (j as usize));
+        let metric = low_first::get16(packet, from + 2 * (j as usize));
         report(cells, p, rts, std::num::wrapping_add_u16(begin, j), metric);
         j += 1;
     }

@@ -32,9 +32,6 @@ pub const NOT_REPORTED: u64 = 1;
 
 const MISSING: u64 = 2;
 
-// A metric's R and a kind as one number: R_UNIT * R + kind.
-const R_UNIT: u16 = 4;
-
 // A received word is RECEIVED + METRIC_UNIT * metric + RTS_UNIT * RTS.
 const RECEIVED: u64 = 3;
 
@@ -110,22 +107,28 @@ fn received_word(metric: u16, rts: u32) -> u64
 }
 
 // A cell's word after a metric of its number, in a packet with that RTS.
-// Branch-free on purpose: over many metrics these branches are unpredictable and cost time. Both choices are by one
-// small number, and the rarer comes last: other forms are compiled to jumps.
+// Branch-free on purpose: over many metrics these branches are unpredictable and cost time. The choice by kind comes
+// after those by the metric: the other way round it is compiled to a jump.
 pub fn word_reported(word: u64, metric: u16, rts: u32) -> u64
     ensures value { λ r. ⌜ r ≡ wordReported metric rts word ⌝ }
 {
-    let both = (R_UNIT * (metric / RECEIVED_BIT)) as u32 + (word % KINDS) as u32;
+    let kind = word % KINDS;
     let received = received_word(metric, rts);
-    // Up to R_UNIT, either R = 0 or the number is not registered.
-    let entered = if both <= R_UNIT as u32 {
+    // What the metric leaves of a number that was not reported yet, and of one that was.
+    let first = if metric < RECEIVED_BIT {
+        MISSING
+    } else {
+        received
+    };
+    let later = if metric < RECEIVED_BIT {
         word
     } else {
         received
     };
-    if both == NOT_REPORTED as u32 {
-        MISSING
+    let reported = if kind == NOT_REPORTED { first } else { later };
+    if NOT_REGISTERED < kind {
+        reported
     } else {
-        entered
+        word
     }
 }

@@ -31,6 +31,7 @@ pub fn rows() -> Vec<Row> {
         take_in((1, 590)),
         take_in((16, 36)),
         take_in_after_reports((1, 590)),
+        take_in_differing((1, 590)),
         status("status of a number, 1 stream", (1, 590)),
         status("status of a number, 16 streams", (16, 36)),
     ]
@@ -98,6 +99,31 @@ fn take_in_after_reports((blocks, count): (u32, u16)) -> Row {
             assert_eq!(calls.take_in(words, &octets), Ok(()));
         }
     })
+}
+
+/// As many packets on the same numbers with other random metrics: no pattern of losses can be learnt.
+fn take_in_differing((blocks, count): (u32, u16)) -> Row {
+    let packet = packet_of((blocks, count));
+    let steps = TIMES * blocks as usize * usize::from(count);
+    let name = format!("take in {blocks} of {count}, differing");
+    let mut rng = Rng::of_case(USUAL_SEED, 2);
+    let packets: Vec<Vec<u8>> = (0..TIMES).map(|_| with_other_metrics(&mut rng, &packet)).collect();
+    let prepare = |calls| registered(calls, &packet);
+    row(&name, (SentCalls::product(), BASELINE), steps, prepare, |calls, words| {
+        for octets in &packets {
+            assert_eq!(calls.take_in(words, octets), Ok(()));
+        }
+    })
+}
+
+/// A packet on the numbers of another, with random metrics.
+fn with_other_metrics(rng: &mut Rng, packet: &Packet) -> Vec<u8> {
+    let other = |block: &Block| {
+        let metrics = block.metrics.iter().map(|_| rng.u16()).collect();
+        Block { ssrc: block.ssrc, begin: block.begin, metrics }
+    };
+    let blocks = packet.blocks.iter().map(other).collect();
+    Packet { sender: packet.sender, rts: packet.rts, blocks }.octets()
 }
 
 /// A packet that says of about half of the numbers of another that they are missing.
