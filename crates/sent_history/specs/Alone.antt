@@ -1,5 +1,5 @@
--- Rules: "What a sender's store means", rule "Streams do not mix". What two stores say of one
--- stream, whatever else they hold.
+-- Rules: "What a sender's store means", rule "Sent streams do not mix". What two stores say of
+-- one stream, whatever else they hold.
 use Prim.Native.Nat.{ℕ, _<_}
 use mathlib.Core.Path.{_≡_}
 use Rattle.window.specs.Number.{sequenceNumbers}
