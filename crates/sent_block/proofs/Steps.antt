@@ -57,7 +57,7 @@ module _ (highest begin n : ℕ) (h : highest < sequenceNumbers) (b : begin < se
   window-in : (j : ℕ) → firstInWindow d ≤ j → j < endInWindow d n → distance j < cellsOfAPlace
   window-in j f e = rw (later-distance highest begin j h b (omega arith)) (omega arith)
 
--- ---- a turn of the loop over the numbers of a block
+-- ---- the numbers of a block one after the other
 
 module _ (s : List ℕ) (p highest rts begin from n : ℕ) (cells : List ℕ) (j : ℕ) where
   number-turn : j < n

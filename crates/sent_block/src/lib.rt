@@ -1,15 +1,14 @@
 // Taking in a report block: what it says of each of its numbers is entered at the number's cell.
 ghost use mathlib.Core.Path.{_≡_};
-ghost use Prim.Native.Nat.{_+_, _*_, _≤_};
+ghost use Prim.Native.Nat.{_+_, _-_, _*_, _≤_, _<_, min};
 ghost use lib.ListN.{length};
 ghost use Rattle.ring.specs.Ring.{cellsOfAPlace};
-ghost use Rattle.place_window.specs.Window.{updated};
 ghost use Rattle.packet.specs.Sizes.{mostReports};
-ghost use Rattle.reader.specs.Reading.{blockIn};
+ghost use Rattle.reader.specs.Reading.{metricsAt, blockIn};
 ghost use Rattle.reports.specs.Reports.{Within};
-ghost use Rattle.sent_word.specs.Word.{wordReported};
-ghost use Rattle.sent_block.specs.Steps.{firstInWindow, endInWindow, blockEntered, blockTaken};
+ghost use Rattle.sent_block.specs.Steps.{firstInWindow, endInWindow, runEntered, blockEntered, blockTaken};
 use lists::Found;
+use ring::CELLS_OF_A_PLACE;
 use walk::ReportBlock;
 
 // The highest number of a window is so far above the lowest one.
@@ -29,18 +28,34 @@ fn end_in_window(d: u16, n: u16) -> u16
     if d < n { d + 1 } else { n }
 }
 
-// Enters what a metric says of a number of the window of the place p.
-fn report(cells: &mut [u64], p: usize, rts: u32, number: u16, metric: u16)
-    requires room { ⌜ cellsOfAPlace * p + cellsOfAPlace ≤ length (now cells) ⌝ }
-    ensures content { λ _. ⌜ now (cells .exit) ≡ updated (wordReported metric rts) (now (cells .entry)) p number ⌝ }
+// So many of n numbers have their cells before the end of the ring, where the first one's is at that slot.
+fn before_the_end(slot: usize, n: usize) -> usize
+    requires slot { ⌜ slot < cellsOfAPlace ⌝ }
+    ensures value { λ r. ⌜ r ≡ min n (cellsOfAPlace - slot) ⌝ }
 {
-    let at = place_window::cell_index(p, number);
-    cells[at] = sent_word::word_reported(cells[at], metric, rts);
+    let left = CELLS_OF_A_PLACE - slot;
+    if n < left { n } else { left }
 }
 
-// Number by number, a block of the stream that the place p holds.
+// Enters n metrics in cells that lie side by side.
+// A plain loop on purpose: it becomes vector code.
+fn enter_run(cells: &mut [u64], at: usize, packet: &[u8], from: usize, n: usize, rts: u32)
+    requires room { ⌜ at + n ≤ length (now cells) ⌝ }
+    requires held { ⌜ from + 2 * n ≤ length (now packet) ⌝ }
+    ensures content { λ _. ⌜
+        now (cells .exit) ≡ runEntered rts (now (cells .entry)) at (metricsAt (now (packet .entry)) from n) ⌝ }
+{
+    let mut i = 0;
+    while i < n {
+        let metric = low_first::get16(packet, from + 2 * i);
+        cells[at + i] = sent_word::word_reported(cells[at + i], metric, rts);
+        i += 1;
+    }
+}
+
+// A block of the stream that the place p holds.
 // The window is tested once for the block: its numbers that are in the window lie together, since a block is not long
-// enough to come round to the window again.
+// enough to come round to the window again. Their cells are two runs: up to the end of the ring, and from its start.
 fn enter_block(cells: &mut [u64], packet: &[u8], b: ReportBlock, p: usize, highest: u16, rts: u32)
     requires room { ⌜ cellsOfAPlace * p + cellsOfAPlace ≤ length (now cells) ⌝ }
     requires within { ⌜ Within (now packet) b ⌝ }
@@ -48,16 +63,17 @@ fn enter_block(cells: &mut [u64], packet: &[u8], b: ReportBlock, p: usize, highe
     ensures content { λ _. ⌜
         now (cells .exit) ≡ blockEntered p highest rts (now (cells .entry)) (blockIn (now (packet .entry)) b) ⌝ }
 {
-    let from = b.metrics_at;
-    let begin = b.begin_seq;
-    let n = b.num_reports;
-    let d = window::distance(highest, begin);
-    let end = end_in_window(d, n);
-    let mut j = first_in_window(d);
-    while j < end {
-        let metric = low_first::get16(packet, from + 2 * (j as usize));
-        report(cells, p, rts, std::num::wrapping_add_u16(begin, j), metric);
-        j += 1;
+    let d = window::distance(highest, b.begin_seq);
+    let end = end_in_window(d, b.num_reports);
+    let first = first_in_window(d);
+    if first < end {
+        let count = (end - first) as usize;
+        let from = b.metrics_at + 2 * (first as usize);
+        let at = place_window::cell_index(p, std::num::wrapping_add_u16(b.begin_seq, first));
+        let start = CELLS_OF_A_PLACE * p;
+        let n = before_the_end(at - start, count);
+        enter_run(cells, at, packet, from, n, rts);
+        enter_run(cells, start, packet, from + 2 * n, count - n, rts);
     }
 }
 

@@ -107,28 +107,23 @@ fn received_word(metric: u16, rts: u32) -> u64
 }
 
 // A cell's word after a metric of its number, in a packet with that RTS.
-// Branch-free on purpose: over many metrics these branches are unpredictable and cost time. The choice by kind comes
-// after those by the metric: the other way round it is compiled to a jump.
+// Branch-free on purpose: over many metrics these branches are unpredictable and cost time. The parts are computed and
+// then chosen, so that a loop over cells that lie side by side becomes vector code.
 pub fn word_reported(word: u64, metric: u16, rts: u32) -> u64
     ensures value { λ r. ⌜ r ≡ wordReported metric rts word ⌝ }
 {
     let kind = word % KINDS;
     let received = received_word(metric, rts);
-    // What the metric leaves of a number that was not reported yet, and of one that was.
-    let first = if metric < RECEIVED_BIT {
-        MISSING
-    } else {
+    // What is left where the metric says "missing", and where it says "received".
+    let missing = if kind == NOT_REPORTED { MISSING } else { word };
+    let arrived = if NOT_REGISTERED < kind {
         received
-    };
-    let later = if metric < RECEIVED_BIT {
-        word
-    } else {
-        received
-    };
-    let reported = if kind == NOT_REPORTED { first } else { later };
-    if NOT_REGISTERED < kind {
-        reported
     } else {
         word
+    };
+    if metric < RECEIVED_BIT {
+        missing
+    } else {
+        arrived
     }
 }

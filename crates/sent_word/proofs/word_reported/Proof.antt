@@ -11,24 +11,23 @@ use Rattle.sent_word.proofs.word_reported.Tie as tie
 returns : tie.Need-returns
 returns c =
     let chosen = c .before in
-    let later = chosen .before in
-    let first = later .before in
-    let arrived = first .before .received-word in
-    let word = first .before .before .args .word in
-    let known : kindOf word ≡ notRegistered → ⊥ = λ e. omega (arith, c .if4 .taken) in
+    let word = chosen .before .before .before .args .word in
     ⊎-elim
+    (λ k. k .1 ∙ sym (reported-missing _ _ _ (λ e. omega (arith, k .0 .taken)) (c .if3 .taken) (k .0 .taken)))
     (λ k. k .1 ∙ ⊎-elim
-    (λ m. m .1 ∙ sym (reported-missing _ _ _ known (m .0 .taken) (k .0 .taken)))
-    (λ m. m .1 ∙ arrived .ensures ∙ sym (reported-received _ _ _ known (m .0 .left)))
-    (first .if1 .came))
-    (λ k. k .1 ∙ ⊎-elim
-    (λ m. m .1 ∙ sym (reported-kept _ _ _ known (m .0 .taken) (k .0 .left)))
-    (λ m. m .1 ∙ arrived .ensures ∙ sym (reported-received _ _ _ known (m .0 .left)))
-    (later .if2 .came))
-    (chosen .if3 .came)
+    (λ a. sym (reported-kept _ _ _ (λ e. omega (arith, a .0 .taken)) (c .if3 .taken) (k .0 .left)))
+    (λ a. sym (reported-none _ _ _ (omega (arith, a .0 .left))))
+    (chosen .if2 .came))
+    (chosen .before .if1 .came)
 
 returns-2 : tie.Need-returns-2
-returns-2 c = sym (reported-none _ _ _ (omega (arith, c .if4 .left)))
+returns-2 c =
+    let chosen = c .before in
+    let arrived = chosen .before .before .received-word in
+    ⊎-elim
+    (λ a. a .1 ∙ arrived .ensures ∙ sym (reported-received _ _ _ (λ e. omega (arith, a .0 .taken)) (c .if3 .left)))
+    (λ a. a .1 ∙ sym (reported-none _ _ _ (omega (arith, a .0 .left))))
+    (chosen .if2 .came)
 
 pub word-reported-spec : {M : Type 1} → statement M
 word-reported-spec = tie.close (tie.spec (λ c κs. search needs) returns returns-2)
