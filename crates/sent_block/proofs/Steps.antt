@@ -75,7 +75,7 @@ module _ (s : List ℕ) (p highest rts begin from n : ℕ) (cells : List ℕ) (j
   unfolding enteredFrom metricsAt
   numbers-done l = let none : n - j ≡ 0 = omega arith in rw none
 
-  -- a number that is not in the window changes nothing
+  -- a number outside the window changes nothing
   passed-turn : j < n → cellsOfAPlace ≤ distanceOf highest ((begin + j) % sequenceNumbers)
       → enteredFrom p highest rts cells begin (j + 1) (metricsAt s (from + 2 * (j + 1)) (n - (j + 1)))
       ≡ enteredFrom p highest rts cells begin j (metricsAt s (from + 2 * j) (n - j))

@@ -1,8 +1,7 @@
 -- `sent_word::word_reported` meets its contract. Assumes nothing.
-use mathlib.Core.Path.{_≡_, sym, _∙_}
+use mathlib.Core.Path.{sym, _∙_}
 use mathlib.Core.Logic.{⊎-elim}
 use native.Mathlib.Omega.{arith}
-use Rattle.sent_word.specs.Word.{notRegistered, kindOf}
 use Rattle.sent_word.proofs.ByKind.{reported-none, reported-received, reported-missing, reported-kept}
 use borrow.Author.Needs.{needs}
 use Rattle.sent_word.proofs.word_reported.Statement.{statement}
