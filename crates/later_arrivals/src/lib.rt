@@ -2,6 +2,7 @@
 ghost use mathlib.Core.Path.{_≡_};
 ghost use Prim.Native.Nat.{_+_, _*_, _≤_};
 ghost use lib.ListN.{length};
+ghost use Rattle.metric.specs.Metric.{congested};
 ghost use Rattle.ring.specs.Ring.{cellsOfAPlace};
 ghost use Rattle.places.specs.Shape.{Ready};
 ghost use Rattle.places.specs.After.{storeAfter};
@@ -20,6 +21,7 @@ pub enum Arrival {
 // Enters an arrival of a number of the window at its cell.
 fn enter(cells: &mut [u64], p: usize, number: u16, mark: u8, time: Time)
     requires room { ⌜ cellsOfAPlace * p + cellsOfAPlace ≤ length (now cells) ⌝ }
+    requires sound_mark { ⌜ mark ≤ congested ⌝ }
     ensures content { λ _. ⌜ now (cells .exit) ≡ updated (wordAfter mark time) (now (cells .entry)) p number ⌝ }
 {
     let at = place_window::cell_index(p, number);
@@ -37,14 +39,16 @@ pub fn resume(
     time: Time,
 ) -> Arrival
     requires ready { ⌜ Ready (now places) (now cells) p ⌝ }
+    requires sound_mark { ⌜ mark ≤ congested ⌝ }
     ensures after { λ r. ⌜
         storeAfter r (now (places .exit)) (now (cells .exit))
         ≡ continued Arrival.Accepted Arrival.Refused (wordAfter mark time) (now (places .entry)) (now (cells .entry)) p ssrc number ⌝ }
 {
+    // Made before the window is looked at on purpose: a number in order then takes one jump less.
+    let word = cells::filled_word(mark, time);
     let step = window::move_of(places::highest_at(places, p), number);
     match step {
         Move::Ahead(f) => {
-            let word = cells::filled_word(mark, time);
             place_window::open_window(places, cells, p, ssrc, number, window::newly(f), word);
             Arrival::Accepted
         }

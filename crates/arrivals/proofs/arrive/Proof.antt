@@ -42,16 +42,23 @@ returns c =
     (sym (c .before .is-shaped .ensures) ∙ not-true _ (c .if1 .taken))
 
 returns-2 : tie.Need-returns-2
-returns-2 c = arrived-bad-mark _ _ _ _ _ _ (shaped-here (c .before .before .before)) (c .if2 .taken)
+returns-2 c =
+    let e = c .before .before .before in
+    let after-slice-known2 = e .before .before .before .before in
+    let a = after-slice-known2 .before .before .args in
+    arrived-bad-mark _ _ _ _ (a .mark) _ (shaped-here e) (omega (arith, c .if2 .taken))
 
 resume-requires : tie.Need-resume-requires
 resume-requires c κs =
     let k = c .before .before .before in
-    let f = k .before .before .before in
+    let t = k .before .before in
+    let f = t .before in
     let e = f .before .before in
     let after-slice-known2 = e .before .before .before .before in
-    let a = after-slice-known2 .before .before .args in
-    ready-found (a .places .now) (a .cells .now) _ _ (is-shaped (a .places .now) (a .cells .now) (shaped-here e)) (sym (f .find .ensures) ∙ k .known .given .1)
+    let a = after-slice-known2 .before .before .args in (
+      ready-found (a .places .now) (a .cells .now) _ _ (is-shaped (a .places .now) (a .cells .now) (shaped-here e)) (sym (f .find .ensures) ∙ k .known .given .1),
+      t .if2 .left,
+    )
 
 returns-3 : tie.Need-returns-3
 returns-3 c =

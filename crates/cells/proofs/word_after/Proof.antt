@@ -10,6 +10,9 @@ use Rattle.cells.proofs.word_after.Tie as tie
 returns : tie.Need-returns
 returns c = c .filled-word .ensures ∙ sym (after-empty _ _ _ (c .before .if1 .taken))
 
+fold-mark-requires : tie.Need-fold-mark-requires
+fold-mark-requires c κs = (omega arith, c .before .pre)
+
 add-result : tie.Need-add-result
 add-result c = omega (arith, c .fold-mark .ensures, folded-small (c .before .before .args .word % 4) (c .before .before .args .mark) (omega arith))
 
@@ -22,6 +25,8 @@ word-after-spec =
     (tie.spec
     (λ c κs. search needs)
     returns
-    (λ c. search needs) (λ c. search needs) (λ c κs. search needs) (λ c. search needs)
+    (λ c. search needs) (λ c. search needs)
+    fold-mark-requires
+    (λ c. search needs)
     add-result
     returns-2)

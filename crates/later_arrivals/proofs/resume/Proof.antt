@@ -15,34 +15,33 @@ use Rattle.later_arrivals.proofs.resume.Tie as tie
 
 -- how the number moves the window of the place
 step-is : (c : tie.After-move-of)
-    → let after-slice-known = c .before .before .before .before in
-    let args = after-slice-known .before .args in
+    → let start = c .before .before .before .before .before .before in
+    let args = start .args in
     c .move-of .result ≡ moveOf (highestAt (args .places .now) (args .p)) (args .number)
 step-is c = rw (← c .before .highest-at .ensures) (c .move-of .ensures)
 
 open-window-requires : tie.Need-open-window-requires
 open-window-requires c κs =
-    let after-known-told = c .before .before .before .before in
-    let told = after-known-told .before in
-    let after-highest-at-arg = told .before .before .before .before in
-    let start = after-highest-at-arg .before .before .before in
+    let told = c .before .before .before .before in
+    let moved = told .before .before in
+    let start = moved .before .before .before .before .before .before in
     let args = start .args in
     let f = told .step .given .0 .0 in
     let known =
-    ahead-is (highestAt (args .places .now) (args .p)) (args .number) f (sym (step-is (told .before .before)) ∙ told .step .given .1) in
+    ahead-is (highestAt (args .places .now) (args .p)) (args .number) f (sym (step-is moved) ∙ told .step .given .1) in
     let n : c .newly .result ≡ min f cellsOfAPlace = c .newly .ensures in
-    (start .pre, (omega (arith, known .1), omega arith))
+    (start .pre .0, (omega (arith, known .1), omega arith))
 
 returns : tie.Need-returns
 returns c =
     let opened = c .before .before .before .before in
-    let filled = opened .before .before .before .before in
-    let told = filled .before .before in
-    let after-highest-at-arg = told .before .before .before .before in
-    let pre = after-highest-at-arg .before .before .before .pre in
+    let told = opened .before .before .before .before .before in
+    let moved = told .before .before in
+    let filled = moved .before .before .before in
+    let pre = filled .before .before .before .pre .0 in
     rw (opened .open-window .ensures .0, opened .open-window .ensures .1, filled .filled-word .ensures, opened .before .newly .ensures)
     (continued-ahead _ _ _ _ (after-empty 0 _ _ (omega arith)) _ _ _ _ _ pre _
-    (sym (step-is (told .before .before)) ∙ told .step .given .1))
+    (sym (step-is moved) ∙ told .step .given .1))
 
 returns-2 : tie.Need-returns-2
 returns-2 c =
@@ -57,8 +56,7 @@ pub resume-spec : {M : Type 1} → statement M
 resume-spec =
     tie.close
     (tie.spec
-    (λ c κs. search needs) (λ c κs. search needs) (λ c. search needs) (λ c κs. search needs)
-    (λ c κs. search needs)
+    (λ c κs. search needs) (λ c κs. search needs) (λ c κs. search needs) (λ c. search needs) (λ c κs. search needs)
     open-window-requires
     (λ c. search needs) (λ c κs. search needs) (λ c. search needs) (λ c. search needs) (λ c. search needs)
     returns
