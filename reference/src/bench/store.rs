@@ -3,27 +3,45 @@
 use super::{row, Row};
 use crate::baseline::store::BASELINE;
 use crate::calls::store::{StoreCalls, Words};
+use crate::rng::{Rng, USUAL_SEED};
 use crate::store::{CELLS_OF_A_PLACE, MOST_PLACES};
 
 const ARRIVALS: usize = 65_536;
 
 const QUESTIONS: usize = 1_000;
 
-/// An SSRC and a number.
-type Arrival = (u32, u16);
+const MARKS: u64 = 4;
+
+#[derive(Clone, Copy)]
+struct Arrival {
+    ssrc: u32,
+    number: u16,
+    mark: u8,
+}
+
+impl Arrival {
+    /// One whose mark follows from its number, so that all copies of it have the same.
+    fn new(ssrc: usize, number: usize) -> Arrival {
+        Arrival { ssrc: ssrc as u32, number: number as u16, mark: number as u8 % MARKS as u8 }
+    }
+}
 
 pub fn rows() -> Vec<Row> {
     let one_stream = |number: fn(usize) -> usize| -> Vec<Arrival> {
-        (0..ARRIVALS).map(|i| (0x1234_5678, number(i) as u16)).collect()
+        (0..ARRIVALS).map(|i| Arrival::new(0x1234_5678, number(i))).collect()
     };
     let in_order = one_stream(|i| i);
     let in_turn: Vec<Arrival> =
-        (0..ARRIVALS).map(|i| ((i % MOST_PLACES) as u32, (i / MOST_PLACES) as u16)).collect();
+        (0..ARRIVALS).map(|i| Arrival::new(i % MOST_PLACES, i / MOST_PLACES)).collect();
+    let mut rng = Rng::of_case(USUAL_SEED, 0);
+    let mut twice = one_stream(|i| i / 2);
+    twice.iter_mut().for_each(|arrival| arrival.mark = rng.below(MARKS) as u8);
     vec![
         arrivals("arrival in order, 1 stream", 1, 0, &in_order),
         arrivals("the same, a million came before", 1, 1_000_000 / ARRIVALS, &in_order),
         arrivals("arrival in order, 16 streams in turn", MOST_PLACES, 0, &in_turn),
         arrivals("one copy in ten", 1, 0, &one_stream(|i| i - i / 10)),
+        arrivals("each number twice, random marks", 1, 0, &twice),
         arrivals("loss of 64 in every thousand", 1, 0, &one_stream(|i| i + i / 936 * 64)),
         arrivals("a jump of 2,048 each", 1, 0, &one_stream(|i| CELLS_OF_A_PLACE * i)),
         oldest("oldest of a stream that just started", &in_order[..1]),
@@ -49,9 +67,8 @@ fn take(calls: StoreCalls, words: &mut Words, arrivals: &[Arrival]) {
     let (places, places_len) = (places.as_mut_ptr(), places.len());
     let (cells, cells_len) = (cells.as_mut_ptr(), cells.len());
     let mut time = 0u32;
-    for &(ssrc, number) in arrivals {
+    for &Arrival { ssrc, number, mark } in arrivals {
         time = time.wrapping_add(65);
-        let mark = number as u8 % 4;
         // SAFETY: each pointer is passed with the length of its slice.
         let refused = unsafe {
             (calls.arrive)(places, places_len, cells, cells_len, ssrc, number, mark, true, time)
@@ -69,7 +86,7 @@ fn oldest(name: &str, arrivals: &[Arrival]) -> Row {
     };
     row(name, (StoreCalls::product(), BASELINE), QUESTIONS, prepare, |calls, words| {
         for _ in 0..QUESTIONS {
-            assert_eq!(calls.oldest(words, 0), Ok(arrivals[0].1));
+            assert_eq!(calls.oldest(words, 0), Ok(arrivals[0].number));
         }
     })
 }

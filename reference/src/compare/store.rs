@@ -11,6 +11,7 @@ use crate::store::{wrapped, CELLS_OF_A_PLACE, MOST_PLACES};
 
 pub fn run(calls: &StoreCalls, tally: &mut Tally) -> Result<(), Mismatch> {
     edges(calls, tally)?;
+    marks_of_copies(calls, tally)?;
     wrong_shapes(calls, tally)?;
     for places in [1, 2, 4, MOST_PLACES] {
         for _ in 0..rounds(20) {
@@ -43,6 +44,24 @@ fn edges(calls: &StoreCalls, tally: &mut Tally) -> Result<(), Mismatch> {
         let mut pair = Pair::fresh(calls, 1);
         for call in run {
             pair.call_closely(tally, call)?;
+        }
+    }
+    Ok(())
+}
+
+/// Three copies with any marks, of H and of a number behind it, the first one with a time and
+/// without.
+fn marks_of_copies(calls: &StoreCalls, tally: &mut Tally) -> Result<(), Mismatch> {
+    for case in 0..4 * 4 * 4 {
+        let marks = [case / 16, case / 4 % 4, case % 4];
+        for (number, first) in [(9, None), (9, Some(5)), (8, None), (8, Some(5))] {
+            let mut pair = Pair::fresh(calls, 1);
+            if number == 8 {
+                pair.call_closely(tally, arrival(7, 9, 0, None))?;
+            }
+            for (mark, time) in marks.into_iter().zip([first, Some(4), None]) {
+                pair.call_closely(tally, arrival(7, number, mark, time))?;
+            }
         }
     }
     Ok(())
