@@ -45,6 +45,7 @@ fn as_the_manual_says() -> Result<(), Refusal> {
     assert_eq!(across[1..], NAMES.map(|(name, _)| format!("copy {name}")));
     assert_eq!(rows.iter().map(|row| row[0]).collect::<Vec<_>>(), NAMES.map(|(name, _)| name));
     for row in rows {
+        assert_eq!(row.len(), 1 + NAMES.len(), "{row:?}");
         for ((_, copy), after) in NAMES.into_iter().zip(&row[1..]) {
             let (held, mark) = (mark_of(row[0]), mark_of(after));
             let timed = Metric::Received { mark, offset: 0 };

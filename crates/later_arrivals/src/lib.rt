@@ -44,7 +44,7 @@ pub fn resume(
         storeAfter r (now (places .exit)) (now (cells .exit))
         ≡ continued Arrival.Accepted Arrival.Refused (wordAfter mark time) (now (places .entry)) (now (cells .entry)) p ssrc number ⌝ }
 {
-    // Made before the window is looked at on purpose: a number in order then takes one jump less.
+    // The word is made before the window is looked at, on purpose: a number in order then takes one jump less.
     let word = cells::filled_word(mark, time);
     let step = window::move_of(places::highest_at(places, p), number);
     match step {

@@ -43,8 +43,9 @@ pub fn take_records(places: &mut [u64], cells: &mut [u64], s: &[u8], from: usize
         match here {
             RecordRead::Record(r) => {
                 let time = r.time;
-                arrivals::arrive(places, cells, r.ssrc, r.number, r.mark, time);
+                // RTS comes first on purpose: the time is then not kept in memory over the arrival.
                 last = last_known(last, time);
+                arrivals::arrive(places, cells, r.ssrc, r.number, r.mark, time);
                 at += RECORD_OCTETS;
             }
             RecordRead::Refused(e) => {

@@ -20,7 +20,7 @@ struct Arrival {
 }
 
 impl Arrival {
-    /// One whose mark follows from its number, so that all copies of it have the same.
+    /// One whose mark follows from its number, so that all copies of it have the same mark.
     fn new(ssrc: usize, number: usize) -> Arrival {
         Arrival { ssrc: ssrc as u32, number: number as u16, mark: number as u8 % MARKS as u8 }
     }

@@ -1,4 +1,5 @@
-//! Store: the cases at the edges, random runs from a fresh store, any content, wrong shapes.
+//! Store: the cases at the edges, every mark after every mark, random runs from a fresh store, any
+//! content, wrong shapes.
 
 use super::lent_words::random_words;
 use super::pair::{Call, Pair};
@@ -49,8 +50,8 @@ fn edges(calls: &StoreCalls, tally: &mut Tally) -> Result<(), Mismatch> {
     Ok(())
 }
 
-/// Three copies with any marks, of H and of a number behind it, the first one with a time and
-/// without.
+/// Three arrivals of one number with every choice of marks, of H and of a number behind it; the
+/// first with a time and without.
 fn marks_of_copies(calls: &StoreCalls, tally: &mut Tally) -> Result<(), Mismatch> {
     for case in 0..4 * 4 * 4 {
         let marks = [case / 16, case / 4 % 4, case % 4];

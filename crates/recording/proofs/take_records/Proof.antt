@@ -39,9 +39,9 @@ loop-less c = omega arith
 
 loop-again : tie.Need-loop-again Inv-loop μ-loop
 loop-again c =
-    let after-places = c .before .before .before .before in
-    let after-arrive = after-places .before in
-    let after-here = after-arrive .before .before .before .before in
+    let after-arrive = c .before .before .before .before in
+    let after-last-known = after-arrive .before .before .before in
+    let after-here = after-last-known .before .before in
     let after-read-record = after-here .before .before in
     let at-loop = after-read-record .before .before .before in
     let start = at-loop .before .before .before .before in
@@ -51,7 +51,7 @@ loop-again c =
       a .kept .0 ∙ l .inv .1,
       a .kept .1 .0 ∙ l .inv .2,
       turn-record (start .args .s .now) (l .at) (l .places) (l .cells) (l .last) (omega arith) _ (after-read-record .read-record .ensures)
-          _ (a .result) _ _ _ (after-here .here .given .1) (a .ensures) (c .last-known .ensures)
+          _ (a .result) _ _ _ (after-here .here .given .1) (a .ensures) (after-last-known .last-known .ensures)
           ∙ l .inv .3,
     )
 
