@@ -2,7 +2,8 @@
  * Both ends of a stream, for three seconds. The camera registers each packet that it sends; the
  * receiver records what arrives, and reports every 200 ms; the camera takes in the feedback, and
  * says what became of its packets. On the way packets are lost, late, copied or marked CE; one
- * feedback packet is lost, and one comes twice.
+ * feedback packet is lost, and one comes twice. At the end the receiver says how many were late or
+ * copies.
  * The link and its times are made up here: examples/wire.c has sockets and a real clock.
  */
 #include "ccfb.h"
@@ -121,41 +122,73 @@ static void send_feedback(const uint8_t *packet, size_t len)
 static uint64_t places[PLACES]; /* zeroed: a fresh store */
 static uint64_t cells[CCFB_CELLS(PLACES)];
 
-/* The last request that was sent for the stream in a place; its count is 0 if there was none. */
+/*
+ * The last request that was sent for the stream in a place; before that, one of no numbers at the
+ * stream's first arrival.
+ */
 static struct ccfb_request told[PLACES];
+
+static unsigned arrivals[CCFB_COPY + 1]; /* how many of each kind */
+static uint16_t gap;                     /* the most numbers that one of them passed over */
+
+/* The first arrival of a stream: its reports start at this number. */
+static void start_reports(uint32_t ssrc, uint16_t number)
+{
+    uint32_t held;
+    uint16_t highest;
+    for (size_t k = 0; k < PLACES; k++)
+        if (ccfb_place(places, PLACES, cells, CCFB_CELLS(PLACES), k, &held, &highest) == 0 &&
+            held == ssrc) {
+            told[k].begin = number;
+            told[k].count = 0;
+        }
+}
+
+static void receive(const struct media_packet *m)
+{
+    struct ccfb_arrival arrival;
+    uint8_t refused = ccfb_arrive(places, PLACES, cells, CCFB_CELLS(PLACES), CAMERA, m->number,
+                                  m->mark, true, count_of(now), &arrival);
+    if (!accepted(refused, "receiver"))
+        return;
+    arrivals[arrival.kind]++;
+    gap = arrival.passed_over > gap ? arrival.passed_over : gap;
+    if (arrival.kind == CCFB_FIRST)
+        start_reports(CAMERA, m->number);
+}
 
 static void receive_all(void)
 {
     for (const struct media_packet *m = media; m < media + media_count; m++)
         if (m->due == now)
-            accepted(ccfb_arrive(places, PLACES, cells, CCFB_CELLS(PLACES), CAMERA, m->number,
-                                 m->mark, true, count_of(now)),
-                     "receiver");
+            receive(m);
 }
 
 /*
- * The next request for the stream of place k: the numbers since the last report, and up to AGAIN
- * of that one, of which some may have come late. The first report starts at the oldest number that
- * arrived: those from before it were not lost. false: the place is free.
+ * How many numbers to report, up to the highest: those since the last report, and up to AGAIN of
+ * that one, of which some may have come late. So no report starts before the first arrival: the
+ * numbers from before it may never have been sent.
  */
+static uint16_t numbers_to_report(const struct ccfb_request *last, uint16_t highest)
+{
+    uint16_t fresh = (uint16_t)(highest + 1 - (last->begin + last->count));
+    uint16_t again = last->count < AGAIN ? last->count : (uint16_t)AGAIN;
+    if (fresh == 0)
+        return 0;
+    if (fresh + again > CCFB_CELLS_OF_A_PLACE)
+        return CCFB_CELLS_OF_A_PLACE; /* the store knows of no more */
+    return (uint16_t)(fresh + again);
+}
+
+/* The next request for the stream of place k; false if the place is free, or nothing is new. */
 static bool next_request(size_t k, struct ccfb_request *request)
 {
-    const struct ccfb_request *last = &told[k];
-    uint16_t highest, oldest;
-    if (ccfb_place(places, PLACES, cells, CCFB_CELLS(PLACES), k, &request->ssrc, &highest) != 0 ||
-        ccfb_oldest(places, PLACES, cells, CCFB_CELLS(PLACES), k, &oldest) != 0)
+    uint16_t highest;
+    if (ccfb_place(places, PLACES, cells, CCFB_CELLS(PLACES), k, &request->ssrc, &highest) != 0)
         return false;
-    request->begin = oldest;
-    if (last->count != 0 && last->ssrc == request->ssrc) {
-        uint16_t again = last->count < AGAIN ? last->count : (uint16_t)AGAIN;
-        request->begin = (uint16_t)(last->begin + last->count - again);
-    }
-    request->count = (uint16_t)(highest - request->begin + 1);
-    if (request->count > CCFB_CELLS_OF_A_PLACE) { /* the store knows of no more */
-        request->count = CCFB_CELLS_OF_A_PLACE;
-        request->begin = (uint16_t)(highest - (CCFB_CELLS_OF_A_PLACE - 1));
-    }
-    return true;
+    request->count = numbers_to_report(&told[k], highest);
+    request->begin = (uint16_t)(highest - request->count + 1);
+    return request->count != 0;
 }
 
 static void report(void)
@@ -320,6 +353,16 @@ static void print_packets(void)
            of_kind[CCFB_NOT_RECEIVED], of_kind[CCFB_NOT_REPORTED]);
 }
 
+/* What the receiver saw. */
+static void print_arrivals(void)
+{
+    unsigned all = 0;
+    for (size_t kind = CCFB_FIRST; kind <= CCFB_COPY; kind++)
+        all += arrivals[kind];
+    printf("%u arrived: %u late, %u copies; at most %u numbers passed over at once\n", all,
+           arrivals[CCFB_LATE], arrivals[CCFB_COPY], gap);
+}
+
 int main(void)
 {
     printf("New to the camera, as each feedback packet comes:\n");
@@ -334,5 +377,6 @@ int main(void)
     printf("What became of the packets (those not reported were in the lost feedback, or were sent\n"
            "after the last report):\n");
     print_packets();
+    print_arrivals();
     return EXIT_SUCCESS;
 }

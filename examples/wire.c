@@ -52,10 +52,32 @@ static struct timespec time_of(clockid_t clock)
     return instant;
 }
 
-/* ---- The receiver: what arrives */
+/* ---- The receiver: its streams */
 
 static uint64_t places[PLACES]; /* zeroed: a fresh store */
 static uint64_t cells[CCFB_CELLS(PLACES)];
+
+/* What is known of the reports on the stream in a place. */
+static struct told {
+    /* The last one that was sent; before that, one of no numbers at the stream's first arrival. */
+    struct ccfb_request last;
+    time_t heard; /* when the stream last had something new */
+} told[PLACES];
+
+/* The first arrival of a stream: its reports start at this number. */
+static void start_reports(uint32_t ssrc, uint16_t number)
+{
+    uint32_t held;
+    uint16_t highest;
+    for (size_t k = 0; k < PLACES; k++)
+        if (ccfb_place(places, PLACES, cells, CCFB_CELLS(PLACES), k, &held, &highest) == 0 &&
+            held == ssrc) {
+            told[k].last.begin = number;
+            told[k].last.count = 0;
+        }
+}
+
+/* ---- The receiver: what arrives */
 
 /* If RTP and RTCP share a port, the second octet tells them apart (RFC 5761). */
 static bool is_rtp(const uint8_t *datagram, size_t len)
@@ -63,16 +85,19 @@ static bool is_rtp(const uint8_t *datagram, size_t len)
     return len >= RTP_HEADER && datagram[0] >> 6 == 2 && (datagram[1] < 192 || datagram[1] > 223);
 }
 
-static void record(const uint8_t *rtp, uint8_t ecn, uint32_t arrival)
+static void record(const uint8_t *rtp, uint8_t ecn, uint32_t arrived_at)
 {
+    struct ccfb_arrival arrival;
     uint16_t number = (uint16_t)(rtp[2] << 8 | rtp[3]);
     uint32_t ssrc =
         (uint32_t)rtp[8] << 24 | (uint32_t)rtp[9] << 16 | (uint32_t)rtp[10] << 8 | rtp[11];
     uint8_t refused = ccfb_arrive(places, PLACES, cells, CCFB_CELLS(PLACES), ssrc, number, ecn,
-                                  true, arrival);
+                                  true, arrived_at, &arrival);
     if (refused != 0)
         fprintf(stderr, "stream %08x, number %u: %s\n", (unsigned)ssrc, number,
                 ccfb_refusal_text(refused));
+    else if (arrival.kind == CCFB_FIRST)
+        start_reports(ssrc, number);
 }
 
 /* The next datagram that has come; what the kernel says of it goes into the message. */
@@ -96,48 +121,32 @@ static void receive_all(int s)
     struct msghdr message;
     ssize_t len;
     while ((len = receive(s, datagram, &message, control)) >= 0) {
-        struct timespec arrival = time_of(CLOCK_REALTIME); /* unless the kernel knows better */
+        struct timespec instant = time_of(CLOCK_REALTIME); /* unless the kernel knows better */
         uint8_t ecn = CCFB_NOT_ECT;
         for (struct cmsghdr *c = CMSG_FIRSTHDR(&message); c != NULL; c = CMSG_NXTHDR(&message, c)) {
             if (c->cmsg_level == IPPROTO_IP && c->cmsg_type == IP_TOS) {
                 ecn = *CMSG_DATA(c) & 3;
             } else if (c->cmsg_level == SOL_SOCKET && c->cmsg_type == SCM_TIMESTAMPNS) {
-                memcpy(&arrival, CMSG_DATA(c), sizeof arrival);
+                memcpy(&instant, CMSG_DATA(c), sizeof instant);
             }
         }
         if (is_rtp(datagram, (size_t)len))
-            record(datagram, ecn, ntp_time(&arrival));
+            record(datagram, ecn, ntp_time(&instant));
     }
 }
 
 /* ---- The receiver: what it reports */
 
-/* What is known of the reports on the stream in a place. */
-static struct told {
-    struct ccfb_request last; /* the last one that was sent; its count is 0 if there was none */
-    time_t heard;             /* when the stream last had something new */
-} told[PLACES];
-
 /* How many numbers to report, up to the highest: those since the last report, and AGAIN of it. */
-static uint16_t numbers_to_report(const struct ccfb_request *last, uint16_t highest,
-                                  uint16_t oldest)
+static uint16_t numbers_to_report(const struct ccfb_request *last, uint16_t highest)
 {
-    uint16_t fresh = (uint16_t)(highest - (last->begin + last->count - 1));
+    uint16_t fresh = (uint16_t)(highest + 1 - (last->begin + last->count));
     uint16_t again = last->count < AGAIN ? last->count : (uint16_t)AGAIN;
-    if (last->count == 0)
-        return (uint16_t)(highest - oldest + 1); /* the first report */
     if (fresh == 0)
         return 0;
     if (fresh + again > CCFB_CELLS_OF_A_PLACE)
         return CCFB_CELLS_OF_A_PLACE; /* the store knows of no more */
     return (uint16_t)(fresh + again);
-}
-
-/* Frees the place of a stream, and forgets what was told of it. */
-static void forget(size_t k, uint32_t ssrc)
-{
-    ccfb_forget(places, PLACES, cells, CCFB_CELLS(PLACES), ssrc);
-    told[k].last.count = 0;
 }
 
 /*
@@ -147,18 +156,15 @@ static void forget(size_t k, uint32_t ssrc)
 static bool next_request(size_t k, time_t now, struct ccfb_request *request)
 {
     struct told *t = &told[k];
-    uint16_t highest, oldest;
-    if (ccfb_place(places, PLACES, cells, CCFB_CELLS(PLACES), k, &request->ssrc, &highest) != 0 ||
-        ccfb_oldest(places, PLACES, cells, CCFB_CELLS(PLACES), k, &oldest) != 0)
+    uint16_t highest;
+    if (ccfb_place(places, PLACES, cells, CCFB_CELLS(PLACES), k, &request->ssrc, &highest) != 0)
         return false; /* the place is free */
-    if (t->last.ssrc != request->ssrc)
-        t->last.count = 0; /* it was another stream's */
-    request->count = numbers_to_report(&t->last, highest, oldest);
+    request->count = numbers_to_report(&t->last, highest);
     request->begin = (uint16_t)(highest - request->count + 1);
     if (request->count != 0)
         t->heard = now;
     else if (now - t->heard > SILENCE)
-        forget(k, request->ssrc);
+        ccfb_forget(places, PLACES, cells, CCFB_CELLS(PLACES), request->ssrc);
     return request->count != 0;
 }
 

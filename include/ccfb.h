@@ -41,9 +41,9 @@ extern "C" {
 #endif
 
 #define CCFB_VERSION_MAJOR 0
-#define CCFB_VERSION_MINOR 2
-#define CCFB_VERSION_PATCH 2
-#define CCFB_VERSION "0.2.2"
+#define CCFB_VERSION_MINOR 3
+#define CCFB_VERSION_PATCH 0
+#define CCFB_VERSION "0.3.0"
 
 /* Refusals. */
 #define CCFB_BAD_MARK 1          /* ECN mark above 3 */
@@ -116,6 +116,21 @@ void ccfb_decode_metric(uint16_t metric, uint8_t *kind, uint8_t *mark, uint16_t 
 #define CCFB_CELLS_OF_A_PLACE 2048 /* sequence numbers of a stream that it knows of */
 #define CCFB_CELLS(places) (CCFB_CELLS_OF_A_PLACE * (places))
 
+/* The kinds of accepted arrival. */
+#define CCFB_FIRST 0 /* the first of its stream, which had no place before */
+#define CCFB_AHEAD 1 /* ahead of the highest number; it may have passed over some */
+#define CCFB_LATE 2  /* behind the highest number, and not received before */
+#define CCFB_COPY 3  /* received before */
+
+/* An arrival passes over at most so many numbers. */
+#define CCFB_MOST_PASSED_OVER 32766
+
+/* What an accepted arrival was. */
+struct ccfb_arrival {
+    uint16_t kind;        /* CCFB_FIRST to CCFB_COPY */
+    uint16_t passed_over; /* CCFB_AHEAD: how many are between the last highest and it; else 0 */
+};
+
 /*
  * Records one received RTP packet.
  *
@@ -126,15 +141,19 @@ void ccfb_decode_metric(uint16_t metric, uint8_t *kind, uint8_t *mark, uint16_t 
  *   mark            the packet's ECN mark, CCFB_NOT_ECT to CCFB_CE
  *   time_known      whether time says when it arrived
  *   time            when it arrived, in 1/65536 s; ignored unless time_known
+ *   arrival         what it was. CCFB_FIRST is where reports on the stream start: numbers from
+ *                   before it may never have been sent. CCFB_AHEAD with passed_over 0 is the next
+ *                   number in order.
  *
- * Returns 0, or the first of these that applies; the store is then unchanged:
+ * Returns 0, or the first of these that applies; the store and *arrival are then unchanged:
  *   CCFB_BAD_STORE       the lengths are not as above
  *   CCFB_BAD_MARK        mark is above 3
  *   CCFB_TOO_OLD         the stream is held, and the number is 2,048 or more behind its highest
  *   CCFB_NO_FREE_PLACE   a new stream, and no place is free
  */
 uint8_t ccfb_arrive(uint64_t *places, size_t places_len, uint64_t *cells, size_t cells_len,
-                    uint32_t ssrc, uint16_t number, uint8_t mark, bool time_known, uint32_t time);
+                    uint32_t ssrc, uint16_t number, uint8_t mark, bool time_known, uint32_t time,
+                    struct ccfb_arrival *arrival);
 
 /*
  * Forgets a stream and frees its place.
@@ -158,8 +177,9 @@ uint8_t ccfb_place(const uint64_t *places, size_t places_len, const uint64_t *ce
 
 /*
  * The oldest sequence number that arrived, among the 2,048 that the store knows of the stream of
- * place k, from 0. A first report on a stream starts here: of the numbers before it none arrived,
- * and they may never have been sent.
+ * place k, from 0. For a caller that did not see the stream's first arrival (CCFB_FIRST), the
+ * first report starts here: of the numbers before it none arrived, and they may never have been
+ * sent.
  *
  * Returns 0, or a refusal as ccfb_place does.
  */
@@ -170,8 +190,8 @@ uint8_t ccfb_oldest(const uint64_t *places, size_t places_len, const uint64_t *c
 
 /*
  * A request: count sequence numbers of a stream, starting at begin. Ask for those since the last
- * report, and the first time for those since ccfb_oldest. Numbers from before the first arrival
- * would be reported as missing, and their sender would take that for loss.
+ * report, and the first time for those since the first arrival (CCFB_FIRST of ccfb_arrive).
+ * Numbers from before it would be reported as missing, and their sender would take that for loss.
  */
 struct ccfb_request {
     uint32_t ssrc;

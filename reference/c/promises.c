@@ -1,6 +1,7 @@
 /*
- * What the header promises beside the calls themselves: NULL with length 0, what a refused call on
- * a datagram leaves in its outputs, refusals in words, and room enough for any limit.
+ * What the header promises beside the calls themselves: NULL with length 0, the kinds of arrival,
+ * what a refused call on a datagram leaves in its outputs, refusals in words, and room enough for
+ * any limit.
  */
 #include "ccfb.h"
 
@@ -25,10 +26,13 @@ static void check(bool holds, const char *what)
 
 static void null_store(void)
 {
+    struct ccfb_arrival arrival = {BEFORE, BEFORE};
     uint32_t ssrc;
     uint16_t number;
     size_t packets, octets;
-    check(ccfb_arrive(NULL, 0, NULL, 0, FIRST, 1, 0, true, 1) == CCFB_BAD_STORE, "arrive");
+    check(ccfb_arrive(NULL, 0, NULL, 0, FIRST, 1, 0, true, 1, &arrival) == CCFB_BAD_STORE,
+          "arrive");
+    check(arrival.kind == BEFORE && arrival.passed_over == BEFORE, "a refused arrive");
     check(ccfb_forget(NULL, 0, NULL, 0, FIRST) == CCFB_BAD_STORE, "forget");
     check(ccfb_place(NULL, 0, NULL, 0, 0, &ssrc, &number) == CCFB_BAD_STORE, "place");
     check(ccfb_oldest(NULL, 0, NULL, 0, 0, &number) == CCFB_BAD_STORE, "oldest");
@@ -55,8 +59,10 @@ static void null_output(void)
 {
     static uint64_t places[1], cells[CCFB_CELLS(1)];
     struct ccfb_request request = {FIRST, 1, 1};
+    struct ccfb_arrival arrival;
     size_t packets = 9, octets = 9;
-    check(ccfb_arrive(places, 1, cells, CCFB_CELLS(1), FIRST, 1, 0, true, 1) == 0, "an arrival");
+    check(ccfb_arrive(places, 1, cells, CCFB_CELLS(1), FIRST, 1, 0, true, 1, &arrival) == 0,
+          "an arrival");
     check(ccfb_write(places, 1, cells, CCFB_CELLS(1), 1, 2, 24, &request, 1, NULL, 0, &packets,
                      &octets) == CCFB_OUTPUT_TOO_SHORT,
           "write to no output");
@@ -101,6 +107,55 @@ static void null_datagram(void)
     check(ccfb_next_packet(NULL, 0, &at, &type, &format, &packet_at, &length) == CCFB_NO_PACKET,
           "next packet");
     check(at == 0 && type == BEFORE && format == BEFORE, "next packet of no octets");
+}
+
+/* An arrival, the answer to it, and what its struct holds then. */
+struct arrival_case {
+    uint32_t ssrc;
+    uint16_t number;
+    uint8_t mark;
+    uint8_t refused;
+    uint16_t kind;
+    uint16_t passed_over;
+};
+
+/* In this order, at a store of one place. */
+static const struct arrival_case arrivals[] = {
+    {FIRST, 10, CCFB_NOT_ECT, 0, CCFB_FIRST, 0},
+    {FIRST, 11, CCFB_NOT_ECT, 0, CCFB_AHEAD, 0},
+    {FIRST, 14, CCFB_NOT_ECT, 0, CCFB_AHEAD, 2},
+    {FIRST, 13, CCFB_NOT_ECT, 0, CCFB_LATE, 0},
+    {FIRST, 13, CCFB_NOT_ECT, 0, CCFB_COPY, 0},
+    {FIRST, 14, CCFB_NOT_ECT, 0, CCFB_COPY, 0},
+    {FIRST, 14 + 32767, CCFB_NOT_ECT, 0, CCFB_AHEAD, CCFB_MOST_PASSED_OVER},
+    {FIRST, 12, CCFB_NOT_ECT, 0, CCFB_AHEAD, CCFB_MOST_PASSED_OVER}, /* 32,767 ahead again */
+    {FIRST, 11, CCFB_NOT_ECT, 0, CCFB_LATE, 0},                      /* not the 11 from before */
+    {FIRST, 11, CCFB_CE + 1, CCFB_BAD_MARK, BEFORE, BEFORE},
+    {FIRST, 12 + 32768, CCFB_NOT_ECT, CCFB_TOO_OLD, BEFORE, BEFORE},
+    {FIRST, 12 - 2048 + 65536, CCFB_NOT_ECT, CCFB_TOO_OLD, BEFORE, BEFORE},
+    {SECOND, 1, CCFB_NOT_ECT, CCFB_NO_FREE_PLACE, BEFORE, BEFORE},
+};
+
+/* The next one, once the stream was forgotten. */
+static const struct arrival_case after_forgetting = {FIRST, 12, CCFB_NOT_ECT, 0, CCFB_FIRST, 0};
+
+static void arrives(uint64_t *places, uint64_t *cells, const struct arrival_case *c)
+{
+    struct ccfb_arrival arrival = {BEFORE, BEFORE};
+    check(ccfb_arrive(places, 1, cells, CCFB_CELLS(1), c->ssrc, c->number, c->mark, true, 1,
+                      &arrival) == c->refused,
+          "the answer to an arrival");
+    check(arrival.kind == c->kind && arrival.passed_over == c->passed_over, "what an arrival was");
+}
+
+static void kinds(void)
+{
+    static uint64_t places[1], cells[CCFB_CELLS(1)];
+    for (size_t i = 0; i < sizeof arrivals / sizeof arrivals[0]; i++)
+        arrives(places, cells, &arrivals[i]);
+    check(ccfb_forget(places, 1, cells, CCFB_CELLS(1), FIRST) == 0, "forget a stream");
+    arrives(places, cells, &after_forgetting);
+    check(sizeof(struct ccfb_arrival) == 4, "the size of what an arrival was");
 }
 
 enum { FEEDBACK_AT = 8, FEEDBACK_LENGTH = 12, HEADER_AT = 20, GOODBYE_AT = 24, OCTETS = 28 };
@@ -203,9 +258,10 @@ static void room_for(const uint64_t *places, const uint64_t *cells, uint16_t fir
 static void room(void)
 {
     static uint64_t places[2], cells[CCFB_CELLS(2)];
+    struct ccfb_arrival arrival;
     for (uint16_t number = 0; number < NUMBERS; number++) {
-        ccfb_arrive(places, 2, cells, CCFB_CELLS(2), FIRST, number, 0, true, 1);
-        ccfb_arrive(places, 2, cells, CCFB_CELLS(2), SECOND, number, 0, true, 1);
+        ccfb_arrive(places, 2, cells, CCFB_CELLS(2), FIRST, number, 0, true, 1, &arrival);
+        ccfb_arrive(places, 2, cells, CCFB_CELLS(2), SECOND, number, 0, true, 1, &arrival);
     }
     for (size_t limit = CCFB_LEAST_LIMIT; limit < 100; limit++)
         for (uint16_t first = 0; first <= NUMBERS; first++)
@@ -220,6 +276,7 @@ int main(void)
     null_output();
     null_packet();
     null_datagram();
+    kinds();
     parts();
     steps();
     texts();

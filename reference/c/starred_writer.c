@@ -52,8 +52,10 @@ static int holds(const struct writer_case *c)
 int main(void)
 {
     const size_t n = sizeof cases / sizeof cases[0];
-    int failed = ccfb_arrive(places, PLACES, cells, CELLS, 7, 3, CCFB_ECT_1, true, 0x00048000)
-                 || ccfb_arrive(places, PLACES, cells, CELLS, 9, 3, CCFB_ECT_0, false, 0);
+    struct ccfb_arrival arrival;
+    int failed = ccfb_arrive(places, PLACES, cells, CELLS, 7, 3, CCFB_ECT_1, true, 0x00048000,
+                             &arrival)
+                 || ccfb_arrive(places, PLACES, cells, CELLS, 9, 3, CCFB_ECT_0, false, 0, &arrival);
     for (size_t i = 0; i < n; i++) {
         if (!holds(&cases[i])) {
             failed = 1;

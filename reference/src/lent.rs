@@ -11,7 +11,7 @@
 
 use crate::metric::Arrived;
 use crate::refusal::Refusal;
-use crate::store::{wrapped, Accepted, Store, Stream, CELLS_OF_A_PLACE, WINDOW};
+use crate::store::{wrapped, Store, Stream, CELLS_OF_A_PLACE, WINDOW};
 
 /// What the word of a held place has above SSRC and H.
 pub const HELD: u64 = 1 << 48;
@@ -46,7 +46,7 @@ fn stream(word: u64, cells: &[u64]) -> Option<Stream> {
         .filter_map(|back| {
             let full = highest - back;
             let cell = cells[usize::from(wrapped(full)) % cells.len()];
-            arrived(cell).map(|arrived| Accepted { full, arrived })
+            arrived(cell).map(|arrived| (full, vec![arrived]))
         })
         .collect();
     Some(Stream { ssrc, highest, accepted })
@@ -65,6 +65,7 @@ fn arrived(cell: u64) -> Option<Arrived> {
 #[cfg(test)]
 mod tests {
     use super::*;
+    use crate::store::ArrivalKind;
 
     #[test]
     fn words() {
@@ -84,6 +85,31 @@ mod tests {
         assert_eq!(window[0], Some(Arrived { mark: 2, time: Some(77) }));
         assert_eq!(window[1], None);
         assert_eq!(window[2], Some(Arrived { mark: 1, time: None }));
+    }
+
+    /// By the cell, at H too. A stream in two places stays held when the lower one is freed.
+    #[test]
+    fn kinds() {
+        let places = [place_word(7, 9), place_word(7, 20)];
+        let mut cells = vec![0; 2 * CELLS_OF_A_PLACE];
+        cells[8] = 8;
+        // The cell of 63,498, the lowest number of the window; 10 will have it.
+        cells[10] = 12;
+        let mut store = read(&places, &cells).unwrap();
+        let nothing = Arrived { mark: 0, time: None };
+        for (number, kind) in [
+            (9, ArrivalKind::Late),
+            (9, ArrivalKind::Copy),
+            (8, ArrivalKind::Copy),
+            (7, ArrivalKind::Late),
+            (63_498, ArrivalKind::Copy),
+            (10, ArrivalKind::Ahead { passed_over: 0 }),
+        ] {
+            assert_eq!(store.arrive(7, number, nothing), Ok(kind), "{number}");
+        }
+        store.forget(7).unwrap();
+        assert_eq!(store.arrive(7, 22, nothing), Ok(ArrivalKind::Ahead { passed_over: 1 }));
+        assert_eq!(store.arrive(7, 20, nothing), Ok(ArrivalKind::Late));
     }
 
     #[test]

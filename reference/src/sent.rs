@@ -4,7 +4,7 @@
 use crate::metric::{decode, Metric};
 use crate::packet::parse;
 use crate::refusal::Refusal;
-use crate::store::{full_of, Move, MOST_PLACES, WINDOW};
+use crate::store::{full_of, MOST_PLACES, WINDOW};
 use std::collections::BTreeMap;
 
 /// What feedback has said of a registered number.
@@ -53,10 +53,7 @@ pub struct Stream {
 impl Stream {
     /// The full number that `number` has in the window.
     fn in_window(&self, number: u16) -> Option<i64> {
-        match full_of(self.highest, number)? {
-            (full, Move::Within) => Some(full),
-            _ => None,
-        }
+        full_of(self.highest, number).filter(|full| *full <= self.highest)
     }
 
     fn report(&mut self, number: u16, status: Status) {
@@ -113,7 +110,7 @@ impl Sent {
         let Some(stream) = self.stream_mut(ssrc) else {
             return self.start(ssrc, number);
         };
-        let (full, _) = full_of(stream.highest, number).ok_or(Refusal::TooOld)?;
+        let full = full_of(stream.highest, number).ok_or(Refusal::TooOld)?;
         stream.highest = stream.highest.max(full);
         stream.registered.entry(full).or_default();
         Ok(())

@@ -1,8 +1,9 @@
-//! The store as a list of accepted arrivals for each stream, each under its full number: the
-//! sequence number if numbers never wrapped around. Every answer is read from that list.
+//! The store as the accepted arrivals of each stream, each under its full number: the sequence
+//! number if numbers never wrapped around. Every answer is read from them.
 
 use crate::metric::{Arrived, CE};
 use crate::refusal::Refusal;
+use std::collections::BTreeMap;
 use std::ops::Range;
 
 pub const MOST_PLACES: usize = 16;
@@ -19,32 +20,27 @@ const FARTHEST_AHEAD: i64 = 32_767;
 /// How many sequence numbers there are before they wrap around.
 const NUMBER_ROUND: i64 = 65_536;
 
-/// An accepted arrival.
-#[derive(Clone, Copy, Debug)]
-pub struct Accepted {
-    pub full: i64,
-    pub arrived: Arrived,
-}
-
 /// A stream with its history.
 #[derive(Clone, Debug)]
 pub struct Stream {
     pub ssrc: u32,
     /// The full number of H.
     pub highest: i64,
-    /// In the order of calls.
-    pub accepted: Vec<Accepted>,
+    /// The accepted arrivals of each full number, in the order of calls.
+    pub accepted: BTreeMap<i64, Vec<Arrived>>,
 }
 
-/// How an accepted arrival moved the window of its stream.
+/// What an accepted arrival was.
 #[derive(Clone, Copy, Debug, PartialEq, Eq)]
-pub enum Move {
-    /// It starts the stream's first window.
-    NewStream,
-    /// It is the new H.
-    Ahead,
-    /// The window already had its number.
-    Within,
+pub enum ArrivalKind {
+    /// The first of its stream.
+    First,
+    /// Ahead of the highest number so far, with so many numbers between the two.
+    Ahead { passed_over: u16 },
+    /// Not ahead, and not received before.
+    Late,
+    /// Received before.
+    Copy,
 }
 
 #[derive(Clone, Debug)]
@@ -58,39 +54,43 @@ pub fn wrapped(full: i64) -> u16 {
 }
 
 /// The full number that `number` stands for if `highest` is that of H, found among all that wrap to
-/// it, and how it moves the window; `None` if too old.
-pub fn full_of(highest: i64, number: u16) -> Option<(i64, Move)> {
+/// it; `None` if too old.
+pub fn full_of(highest: i64, number: u16) -> Option<i64> {
     let round = highest.div_euclid(NUMBER_ROUND) * NUMBER_ROUND;
     let candidates =
         [-NUMBER_ROUND, 0, NUMBER_ROUND].map(|rounds| round + rounds + i64::from(number));
     let is_ahead = |full: &&i64| (1..=FARTHEST_AHEAD).contains(&(*full - highest));
     let is_within = |full: &&i64| WINDOW.contains(&(highest - *full));
-    match (candidates.iter().find(is_ahead), candidates.iter().find(is_within)) {
-        (Some(full), _) => Some((*full, Move::Ahead)),
-        (None, Some(full)) => Some((*full, Move::Within)),
-        (None, None) => None,
-    }
+    candidates.iter().find(is_ahead).or(candidates.iter().find(is_within)).copied()
 }
 
 impl Stream {
     /// The lowest full number of the window that an accepted arrival had; that of H if none had
     /// one.
     pub fn oldest(&self) -> i64 {
-        let full_numbers = self.accepted.iter().map(|accepted| accepted.full);
-        let of_window = full_numbers.filter(|full| WINDOW.contains(&(self.highest - full)));
-        of_window.min().unwrap_or(self.highest)
+        let of_window = self.accepted.range(self.highest + 1 - WINDOW.end..);
+        of_window.map(|(full, _)| *full).next().unwrap_or(self.highest)
     }
 
     /// The cells of the window: that of H first, then that of H-1 and so on.
     pub fn window(&self) -> Vec<Option<Arrived>> {
-        let mut copies = vec![Vec::new(); CELLS_OF_A_PLACE];
-        for accepted in &self.accepted {
-            let back = self.highest - accepted.full;
-            if WINDOW.contains(&back) {
-                copies[back as usize].push(accepted.arrived);
-            }
-        }
-        copies.iter().map(|copies| cell(copies)).collect()
+        let copies = |back| self.accepted.get(&(self.highest - back));
+        WINDOW.map(|back| copies(back).and_then(|copies| cell(copies))).collect()
+    }
+
+    /// Enters an arrival of that full number, and says what it was by what came before it.
+    fn enter(&mut self, full: i64, arrived: Arrived) -> ArrivalKind {
+        let kind = if full > self.highest {
+            let between = self.highest + 1..full;
+            ArrivalKind::Ahead { passed_over: between.count() as u16 }
+        } else if self.accepted.contains_key(&full) {
+            ArrivalKind::Copy
+        } else {
+            ArrivalKind::Late
+        };
+        self.highest = self.highest.max(full);
+        self.accepted.entry(full).or_default().push(arrived);
+        kind
     }
 }
 
@@ -122,7 +122,12 @@ impl Store {
         self.places.iter().flatten().find(|stream| stream.ssrc == ssrc)
     }
 
-    pub fn arrive(&mut self, ssrc: u32, number: u16, arrived: Arrived) -> Result<Move, Refusal> {
+    pub fn arrive(
+        &mut self,
+        ssrc: u32,
+        number: u16,
+        arrived: Arrived,
+    ) -> Result<ArrivalKind, Refusal> {
         if arrived.mark > CE {
             return Err(Refusal::BadMark);
         }
@@ -130,18 +135,16 @@ impl Store {
         let Some(stream) = held else {
             return self.start(ssrc, number, arrived);
         };
-        let (full, moved) = full_of(stream.highest, number).ok_or(Refusal::TooOld)?;
-        stream.highest = stream.highest.max(full);
-        stream.accepted.push(Accepted { full, arrived });
-        Ok(moved)
+        let full = full_of(stream.highest, number).ok_or(Refusal::TooOld)?;
+        Ok(stream.enter(full, arrived))
     }
 
-    fn start(&mut self, ssrc: u32, number: u16, arrived: Arrived) -> Result<Move, Refusal> {
+    fn start(&mut self, ssrc: u32, number: u16, arrived: Arrived) -> Result<ArrivalKind, Refusal> {
         let free = self.places.iter_mut().find(|place| place.is_none());
         let place = free.ok_or(Refusal::NoFreePlace)?;
-        let full = i64::from(number);
-        *place = Some(Stream { ssrc, highest: full, accepted: vec![Accepted { full, arrived }] });
-        Ok(Move::NewStream)
+        let highest = i64::from(number);
+        *place = Some(Stream { ssrc, highest, accepted: [(highest, vec![arrived])].into() });
+        Ok(ArrivalKind::First)
     }
 
     pub fn forget(&mut self, ssrc: u32) -> Result<(), Refusal> {
@@ -175,29 +178,66 @@ mod tests {
         Arrived { mark, time }
     }
 
+    fn ahead(passed_over: u16) -> ArrivalKind {
+        ArrivalKind::Ahead { passed_over }
+    }
+
     /// A store of one place whose stream 7 has H = `highest`.
     fn one_stream(highest: u16) -> Store {
         let mut store = Store::fresh(1).unwrap();
-        assert_eq!(store.arrive(7, highest, arrived(0, None)), Ok(Move::NewStream));
+        assert_eq!(store.arrive(7, highest, arrived(0, None)), Ok(ArrivalKind::First));
         store
     }
 
     #[test]
     fn numbers_around_the_highest() {
         for (number, answer) in [
-            (0, Ok(Move::Within)),
-            (65_535, Ok(Move::Within)),
-            (63_489, Ok(Move::Within)),
+            (0, Ok(ArrivalKind::Copy)),
+            (65_535, Ok(ArrivalKind::Late)),
+            (63_489, Ok(ArrivalKind::Late)),
             (63_488, Err(Refusal::TooOld)),
-            (1, Ok(Move::Ahead)),
-            (32_767, Ok(Move::Ahead)),
+            (1, Ok(ahead(0))),
+            (2, Ok(ahead(1))),
+            (32_767, Ok(ahead(32_766))),
             (32_768, Err(Refusal::TooOld)),
         ] {
             let mut store = one_stream(0);
             assert_eq!(store.arrive(7, number, arrived(0, None)), answer, "{number}");
-            let highest = if answer == Ok(Move::Ahead) { number } else { 0 };
+            let is_ahead = matches!(answer, Ok(ArrivalKind::Ahead { .. }));
+            let highest = if is_ahead { number } else { 0 };
             assert_eq!(store.place(0), Ok((7, highest)));
         }
+    }
+
+    /// A number that comes round again is not a copy of the one before.
+    #[test]
+    fn kinds() {
+        let mut store = one_stream(9);
+        for (number, kind) in [
+            (9, ArrivalKind::Copy),
+            (12, ahead(2)),
+            (10, ArrivalKind::Late),
+            (10, ArrivalKind::Copy),
+            (12, ArrivalKind::Copy),
+            (2_060, ahead(2_047)),
+            (13, ArrivalKind::Late),
+            (34_827, ahead(32_766)),
+            (2_058, ahead(32_766)),
+            (13, ArrivalKind::Late),
+            (13, ArrivalKind::Copy),
+            (2_060, ahead(1)),
+        ] {
+            assert_eq!(store.arrive(7, number, arrived(0, None)), Ok(kind), "{number}");
+        }
+    }
+
+    #[test]
+    fn kinds_after_forgetting() {
+        let mut store = one_stream(5);
+        assert_eq!(store.arrive(7, 6, arrived(0, None)), Ok(ahead(0)));
+        store.forget(7).unwrap();
+        assert_eq!(store.arrive(7, 6, arrived(0, None)), Ok(ArrivalKind::First));
+        assert_eq!(store.arrive(7, 5, arrived(0, None)), Ok(ArrivalKind::Late));
     }
 
     #[test]
@@ -261,7 +301,7 @@ mod tests {
         assert_eq!(store.arrive(3, 0, arrived(4, None)), Err(Refusal::BadMark));
         assert_eq!(store.forget(3), Err(Refusal::NotHeld));
         assert_eq!(store.forget(1), Ok(()));
-        assert_eq!(store.arrive(3, 9, nothing), Ok(Move::NewStream));
+        assert_eq!(store.arrive(3, 9, nothing), Ok(ArrivalKind::First));
         assert_eq!(store.place(0), Ok((3, 9)));
         assert_eq!(store.place(2), Err(Refusal::NotHeld));
         assert!(Store::fresh(0).is_err() && Store::fresh(17).is_err());

@@ -39,8 +39,9 @@ impl Receiver {
         while let Some(len) = received(&self.socket, &mut datagram)? {
             if let Some((ssrc, number)) = rtp(&datagram[..len]) {
                 let now = Time::from(SystemTime::now());
-                if let Err(refusal) = self.store.arrive(ssrc, number, Mark::NotEct, now) {
-                    eprintln!("stream {ssrc:08x}, number {number}: {refusal}");
+                match self.store.arrive(ssrc, number, Mark::NotEct, now) {
+                    Ok(kind) => self.reporter.arrived(ssrc, number, kind),
+                    Err(refusal) => eprintln!("stream {ssrc:08x}, number {number}: {refusal}"),
                 }
             }
         }

@@ -1,7 +1,8 @@
 //! RTCP Congestion Control Feedback (CCFB, [RFC 8888]) for receivers and senders of RTP: a safe
 //! wrapper of the proved library `libccfb.a`.
 //!
-//! - A receiver records what arrives in a [`Store`]. For each report a [`Reporter`] makes the
+//! - A receiver records what arrives in a [`Store`], which says of each packet whether it was the
+//!   first, ahead, late or a copy ([`ArrivalKind`]). For each report a [`Reporter`] makes the
 //!   requests, and the store [writes](StoreOver::write) the packets.
 //! - A sender registers what it sends in [`SentPackets`], takes in the feedback of each received
 //!   [`Datagram`], and asks what became of a packet. To see what a single report says, it reads
@@ -20,11 +21,13 @@
 //!
 //! // The receiver: 65535 is lost. A real one takes its times from the clock, see `ntp_time`.
 //! let mut store = Store::<4>::new();
-//! store.arrive(0x0a01, 65534, Mark::Ect0, Time::At(0x0004_8000))?;
-//! store.arrive(0x0a01, 0, Mark::Ce, Time::At(0x0005_0000))?;
+//! let mut reporter = Reporter::new(16);
+//! for (number, mark, time) in [(65534, Mark::Ect0, 0x0004_8000), (0, Mark::Ce, 0x0005_0000)] {
+//!     let kind = store.arrive(0x0a01, number, mark, Time::At(time))?;
+//!     reporter.arrived(0x0a01, number, kind);
+//! }
 //!
 //! // A report, every 50 ms or so: what is new since the last, and up to 16 numbers once more.
-//! let mut reporter = Reporter::new(16);
 //! let requests = reporter.requests(store.streams());
 //! let report = Report { own: 0xf1, rts: 0x0005_0000, limit: 1_200 };
 //! let mut out = vec![0; requests.room()];
@@ -52,11 +55,11 @@
 //!
 //! # Which numbers to report
 //!
-//! **Never report numbers from before the oldest that arrived.** They would be reported as
+//! **Never report numbers from before the first that arrived.** They would be reported as
 //! missing, and a sender takes that for loss: the newest 64 numbers of a stream of which one
 //! packet arrived are 98 % loss. Report what is new since the last report, and a few numbers
-//! again for packets that arrive late. A [`Reporter`] does that, and [`Stream`] has the ranges to
-//! do it by hand.
+//! again for packets that arrive late. A [`Reporter`] does that if it is told of each
+//! [arrival](Reporter::arrived), and [`Stream`] has the ranges to do it by hand.
 //!
 //! # What may be trusted
 //!
@@ -91,6 +94,7 @@ extern crate alloc;
 #[cfg(feature = "std")]
 extern crate std;
 
+mod arrival;
 mod datagram;
 mod limits;
 mod memory;
@@ -107,8 +111,10 @@ mod stream;
 mod time;
 mod write;
 
+pub use arrival::ArrivalKind;
 pub use datagram::{Datagram, FeedbackPackets, RtcpPacket, RtcpPackets};
-pub use limits::{room, CELLS_OF_A_PLACE, LIMITS, MOST_PLACES, MOST_REPORTS, MOST_REQUESTS};
+pub use limits::{room, CELLS_OF_A_PLACE, LIMITS};
+pub use limits::{MOST_PASSED_OVER, MOST_PLACES, MOST_REPORTS, MOST_REQUESTS};
 #[cfg(feature = "alloc")]
 pub use memory::Owned;
 pub use memory::{Borrowed, Memory};

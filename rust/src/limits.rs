@@ -8,6 +8,9 @@ pub const MOST_PLACES: usize = 16;
 /// The cells of a place, one for each number of its stream's window.
 pub const CELLS_OF_A_PLACE: usize = 2_048;
 
+/// The most numbers that one arrival may [pass over](crate::ArrivalKind::Ahead).
+pub const MOST_PASSED_OVER: u16 = 32_766;
+
 /// The size limits that a [`Report`](crate::Report) may have, in octets.
 pub const LIMITS: RangeInclusive<usize> = 24..=9_000;
 

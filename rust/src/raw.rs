@@ -6,8 +6,16 @@
 #![allow(unsafe_code)]
 
 use crate::memory::{Words, WordsMut};
-use crate::{kind, Block, Mark, Metric, Refusal, Report, Request, RtcpPacket};
-use crate::{Status, Stream, Time};
+use crate::{arrival, kind, ArrivalKind, Block, Mark, Metric, Refusal, Report, Request};
+use crate::{RtcpPacket, Status, Stream, Time};
+
+/// As `struct ccfb_arrival` of include/ccfb.h.
+#[derive(Default)]
+#[repr(C)]
+struct Arrival {
+    kind: u16,
+    passed_over: u16,
+}
 
 // As in include/ccfb.h; a call writes its outputs through references.
 #[rustfmt::skip]
@@ -18,7 +26,7 @@ extern "C" {
     fn ccfb_decode_metric(metric: u16, kind: &mut u8, mark: &mut u8, offset: &mut u16);
     fn ccfb_arrive(
         places: *mut u64, places_len: usize, cells: *mut u64, cells_len: usize,
-        ssrc: u32, number: u16, mark: u8, time_known: bool, time: u32,
+        ssrc: u32, number: u16, mark: u8, time_known: bool, time: u32, arrival: &mut Arrival,
     ) -> u8;
     fn ccfb_forget(
         places: *mut u64, places_len: usize, cells: *const u64, cells_len: usize, ssrc: u32,
@@ -113,6 +121,15 @@ fn metric_of(kind: u8, mark: u8, offset: u16) -> Metric {
     }
 }
 
+fn arrival_kind_of(Arrival { kind, passed_over }: Arrival) -> ArrivalKind {
+    match kind {
+        arrival::FIRST => ArrivalKind::First,
+        arrival::AHEAD => ArrivalKind::Ahead { passed_over },
+        arrival::LATE => ArrivalKind::Late,
+        _ => ArrivalKind::Copy, // arrival::COPY, the only other one
+    }
+}
+
 fn status_of(kind: u8, mark: u8, time: u32) -> Status {
     let mark = Mark::of_bits(mark);
     match kind {
@@ -146,10 +163,11 @@ pub fn arrive(
     number: u16,
     mark: Mark,
     time: Time,
-) -> Result<(), Refusal> {
+) -> Result<ArrivalKind, Refusal> {
     let WordsMut { places, cells } = words;
     let (time_known, time) = flagged(time);
-    // SAFETY: each pointer is passed with the length of its slice.
+    let mut arrival = Arrival::default();
+    // SAFETY: each pointer is passed with the length of its slice; the other is a reference.
     let refused = unsafe {
         ccfb_arrive(
             places.as_mut_ptr(),
@@ -161,9 +179,10 @@ pub fn arrive(
             mark.number(),
             time_known,
             time,
+            &mut arrival,
         )
     };
-    answer(refused, ())
+    answer(refused, arrival_kind_of(arrival))
 }
 
 pub fn forget(words: WordsMut<'_>, ssrc: u32) -> Result<(), Refusal> {
@@ -424,7 +443,7 @@ pub fn status(words: Words<'_>, ssrc: u32, number: u16) -> Result<Status, Refusa
 
 #[cfg(test)]
 mod tests {
-    use super::{answer, metric_of, part_of, status_of};
+    use super::{answer, arrival_kind_of, metric_of, part_of, status_of, Arrival};
 
     /// The library gives none of these answers.
     #[test]
@@ -437,6 +456,7 @@ mod tests {
             assert_eq!(answer(number, ()).is_ok(), number == 0);
             metric_of(number, number, u16::MAX);
             status_of(number, number, u32::MAX);
+            arrival_kind_of(Arrival { kind: number.into(), passed_over: u16::MAX });
         }
     }
 }

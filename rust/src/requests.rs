@@ -22,7 +22,7 @@ pub struct Request {
 }
 
 impl Request {
-    /// The last number that it asks for; H if it asks for an empty block.
+    /// The last number that it asks for, or `begin` if it asks for none.
     pub(crate) fn last(self) -> u16 {
         self.begin.wrapping_add(self.count.saturating_sub(1))
     }
@@ -61,7 +61,7 @@ impl Requests {
         self.iter().copied().find(|request| request.ssrc == ssrc)
     }
 
-    /// Adds a request, or replaces the one for the same stream. There is no 17th.
+    /// Adds a request, or replaces the one for the same stream. A 17th is not added.
     pub(crate) fn put(&mut self, request: Request) {
         let same = self.iter().position(|earlier| earlier.ssrc == request.ssrc);
         let at = same.unwrap_or(self.count);
@@ -69,6 +69,24 @@ impl Requests {
             *entry = request;
             self.count = self.count.max(at + 1);
         }
+    }
+
+    /// Adds a request for a stream that has none. A 17th takes the place of the earliest.
+    pub(crate) fn add(&mut self, request: Request) {
+        if self.count == MOST_REQUESTS {
+            self.list.rotate_left(1);
+            self.count -= 1;
+        }
+        self.put(request);
+    }
+
+    /// The requests for the other streams.
+    pub(crate) fn without(&self, ssrc: u32) -> Requests {
+        let mut others = Requests::NONE;
+        for request in self.iter().filter(|request| request.ssrc != ssrc) {
+            others.put(*request);
+        }
+        others
     }
 }
 

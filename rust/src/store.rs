@@ -3,17 +3,17 @@
 #[cfg(feature = "alloc")]
 use crate::memory::Owned;
 use crate::memory::{Borrowed, Memory};
-use crate::{raw, Mark, Packets, Refusal, Report, Request, Stream, Time};
+use crate::{raw, ArrivalKind, Mark, Packets, Refusal, Report, Request, Stream, Time};
 use core::fmt;
 
 /// A store that owns its memory, for up to `PLACES` streams, 1 to 16. Needs the feature `alloc`.
 /// Its methods are those of [`StoreOver`].
 ///
 /// ```
-/// use ccfb::{Mark, Refusal, Store, Time};
+/// use ccfb::{ArrivalKind, Mark, Refusal, Store, Time};
 ///
 /// let mut store = Store::<1>::new();
-/// assert_eq!(store.arrive(7, 100, Mark::Ect1, Time::At(1)), Ok(()));
+/// assert_eq!(store.arrive(7, 100, Mark::Ect1, Time::At(1)), Ok(ArrivalKind::First));
 /// assert_eq!(store.arrive(9, 500, Mark::Ect1, Time::At(2)), Err(Refusal::NoFreePlace));
 /// ```
 ///
@@ -34,7 +34,7 @@ pub type Store<const PLACES: usize> = StoreOver<Owned<PLACES>>;
 /// In static memory:
 ///
 /// ```
-/// use ccfb::{Mark, Refusal, StoreIn, Time, CELLS_OF_A_PLACE};
+/// use ccfb::{ArrivalKind, Mark, Refusal, StoreIn, Time, CELLS_OF_A_PLACE};
 /// use std::sync::Mutex;
 ///
 /// const PLACES: usize = 4;
@@ -45,7 +45,7 @@ pub type Store<const PLACES: usize> = StoreOver<Owned<PLACES>>;
 /// static MEMORY: Mutex<Memory> =
 ///     Mutex::new(Memory { places: [0; PLACES], cells: [0; PLACES * CELLS_OF_A_PLACE] });
 ///
-/// fn on_packet(ssrc: u32, number: u16, mark: Mark, time: Time) -> Result<(), Refusal> {
+/// fn on_packet(ssrc: u32, number: u16, mark: Mark, time: Time) -> Result<ArrivalKind, Refusal> {
 ///     let memory = &mut *MEMORY.lock().expect("no thread panics with the lock");
 ///     StoreIn::new(&mut memory.places, &mut memory.cells)?.arrive(ssrc, number, mark, time)
 /// }
@@ -129,8 +129,9 @@ impl<'a> StoreOver<Borrowed<'a>> {
 }
 
 impl<M: Memory> StoreOver<M> {
-    /// Records an arrival. A copy keeps the first one's time and mark, except that the mark
-    /// becomes [`Mark::Ce`] if any copy carried it.
+    /// Records an arrival, and says what it was: tell a [`Reporter`](crate::Reporter::arrived). A
+    /// copy keeps the first one's time and mark, except that the mark becomes [`Mark::Ce`] if any
+    /// copy carried it.
     ///
     /// # Errors
     ///
@@ -138,12 +139,15 @@ impl<M: Memory> StoreOver<M> {
     /// [`Refusal::NoFreePlace`] for an unknown stream that finds no place.
     ///
     /// ```
-    /// use ccfb::{Mark, Refusal, Store, Time};
+    /// use ccfb::{ArrivalKind, Mark, Refusal, Store, Time};
     ///
     /// let mut store = Store::<1>::new();
-    /// assert_eq!(store.arrive(7, 5_000, Mark::Ect0, Time::At(1)), Ok(()));
-    /// assert_eq!(store.arrive(7, 2_953, Mark::Ect0, Time::Unknown), Ok(()));
-    /// assert_eq!(store.arrive(7, 2_952, Mark::Ect0, Time::At(3)), Err(Refusal::TooOld));
+    /// let mut arrive = |number, time| store.arrive(7, number, Mark::Ect0, time);
+    /// assert_eq!(arrive(4_997, Time::At(1)), Ok(ArrivalKind::First));
+    /// assert_eq!(arrive(5_000, Time::At(2)), Ok(ArrivalKind::Ahead { passed_over: 2 }));
+    /// assert_eq!(arrive(2_953, Time::Unknown), Ok(ArrivalKind::Late));
+    /// assert_eq!(arrive(2_953, Time::At(4)), Ok(ArrivalKind::Copy));
+    /// assert_eq!(arrive(2_952, Time::At(5)), Err(Refusal::TooOld));
     /// ```
     pub fn arrive(
         &mut self,
@@ -151,12 +155,13 @@ impl<M: Memory> StoreOver<M> {
         number: u16,
         mark: Mark,
         time: Time,
-    ) -> Result<(), Refusal> {
+    ) -> Result<ArrivalKind, Refusal> {
         raw::arrive(self.memory.words_mut(), ssrc, number, mark, time)
     }
 
     /// Forgets a stream and frees its place. Its history starts anew with its next arrival: a
-    /// [`Reporter`](crate::Reporter::forget) must forget it too.
+    /// [`Reporter`](crate::Reporter::forget) must forget it too, or be told of the
+    /// [arrivals](crate::Reporter::arrived).
     ///
     /// # Errors
     ///

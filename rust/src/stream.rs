@@ -48,8 +48,18 @@ impl Stream {
         self.up_to_highest(count.min(self.known()))
     }
 
-    /// The request for all numbers from the oldest that arrived to H: the first report on a
-    /// stream.
+    /// The request for all numbers from the oldest that arrived to H: the first report on a stream
+    /// whose first arrival is not known. If it is, the first report is the one
+    /// [`since`](Stream::since) the number before it.
+    ///
+    /// ```
+    /// use ccfb::{Request, Stream};
+    ///
+    /// // 100 was the first to arrive, and 97 came late.
+    /// let stream = Stream { ssrc: 7, highest: 100, oldest: 97 };
+    /// assert_eq!(stream.all(), Request { ssrc: 7, begin: 97, count: 4 });
+    /// assert_eq!(stream.since(99), Request { ssrc: 7, begin: 100, count: 1 });
+    /// ```
     pub fn all(self) -> Request {
         self.up_to_highest(self.known())
     }
@@ -98,7 +108,8 @@ impl Stream {
     }
 
     /// The request for the numbers after those of the `last` request, and up to `overlap` of them
-    /// once more: so it does not start before that one, whatever has arrived.
+    /// once more: so it does not start before that one, whatever has arrived. After an empty
+    /// request it starts at the number after its `begin`, or at the lowest of the window.
     pub(crate) fn after(self, last: Request, overlap: u16) -> Request {
         let count = match self.fresh(last.last()) {
             Some(fresh) => fresh.saturating_add(overlap.min(last.count)).min(WINDOW),

@@ -1,7 +1,7 @@
 //! The C header has the refusals with their meanings, the version, the limits, the marks, the kinds
-//! of metric, and the type and FMT of a CCFB packet of this crate.
+//! of metric and of arrival, and the type and FMT of a CCFB packet of this crate.
 
-use ccfb::{kind, room, Datagram, Mark, Refusal};
+use ccfb::{kind, room, ArrivalKind, Datagram, Mark, Refusal};
 
 const HEADER: &str = include_str!("../../include/ccfb.h");
 
@@ -70,6 +70,7 @@ fn limits() {
     for (name, limit) in [
         ("CCFB_MOST_PLACES", ccfb::MOST_PLACES),
         ("CCFB_CELLS_OF_A_PLACE", ccfb::CELLS_OF_A_PLACE),
+        ("CCFB_MOST_PASSED_OVER", ccfb::MOST_PASSED_OVER.into()),
         ("CCFB_LEAST_LIMIT", *ccfb::LIMITS.start()),
         ("CCFB_MOST_LIMIT", *ccfb::LIMITS.end()),
         ("CCFB_MOST_REQUESTS", ccfb::MOST_REQUESTS),
@@ -94,6 +95,18 @@ fn kinds() {
         ("CCFB_NOT_REPORTED", kind::NOT_REPORTED),
     ] {
         assert_eq!(value_of(name), kind.to_string(), "{name}");
+    }
+}
+
+#[test]
+fn arrival_kinds() {
+    for (name, kind) in [
+        ("CCFB_FIRST", ArrivalKind::First),
+        ("CCFB_AHEAD", ArrivalKind::Ahead { passed_over: 0 }),
+        ("CCFB_LATE", ArrivalKind::Late),
+        ("CCFB_COPY", ArrivalKind::Copy),
+    ] {
+        assert_eq!(value_of(name), kind.number().to_string(), "{name}");
     }
 }
 

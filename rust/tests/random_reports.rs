@@ -1,11 +1,14 @@
-//! A million arrivals and reports: the first report on a stream starts at the oldest number that
-//! arrived, no later one starts before it, no number is left out, and no request is refused.
+//! Over a million arrivals and reports: the first report on a stream starts at its first arrival,
+//! or at the oldest number that arrived if the reporter is not told of the arrivals; no later one
+//! starts before it or repeats more than the overlap, no number is left out, and no request is
+//! refused.
 
 #[path = "common/random.rs"]
 mod random;
 
 use ccfb::{
-    Mark, Packet, Refusal, Report, Reporter, Requests, StoreIn, Time, CELLS_OF_A_PLACE, LIMITS,
+    ArrivalKind, Mark, Packet, Refusal, Report, Reporter, Requests, StoreIn, Time,
+    CELLS_OF_A_PLACE, LIMITS,
 };
 use random::Random;
 use std::collections::{BTreeSet, HashMap};
@@ -14,10 +17,19 @@ const STEPS: usize = 1_000_000;
 const PLACES: usize = 4;
 const WINDOW: u64 = CELLS_OF_A_PLACE as u64;
 
+/// Whether the reporter is told what each arrival was.
+#[derive(Clone, Copy, PartialEq)]
+enum Arrivals {
+    Told,
+    NotTold,
+}
+
 /// What is known of a stream since it took its place. Its numbers are counted on without wrapping.
 struct History {
     highest: u64,
     arrived: BTreeSet<u64>,
+    /// Its first arrival, if the reporter was told of it.
+    first: Option<u64>,
     /// Where the first report began, and where the last one ended.
     reported_from: u64,
     reported_to: Option<u64>,
@@ -26,17 +38,25 @@ struct History {
 }
 
 impl History {
-    fn starting_at(number: u64) -> History {
-        let arrived = BTreeSet::from([number]);
-        let to_be_told = vec![number];
-        History { highest: number, arrived, reported_from: 0, reported_to: None, to_be_told }
+    fn starting_at(number: u64, arrivals: Arrivals) -> History {
+        History {
+            highest: number,
+            arrived: BTreeSet::from([number]),
+            first: (arrivals == Arrivals::Told).then_some(number),
+            reported_from: 0,
+            reported_to: None,
+            to_be_told: vec![number],
+        }
     }
 
     fn arrive(&mut self, number: u64, overlap: u64) {
         self.highest = self.highest.max(number);
         self.arrived.insert(number);
-        let told_again = |last| self.reported_from <= number && last < number + overlap;
-        if self.reported_to.map_or(true, told_again) {
+        let told = match self.reported_to {
+            None => self.first.map_or(true, |first| first <= number),
+            Some(last) => self.reported_from <= number && last < number + overlap,
+        };
+        if told {
             self.to_be_told.push(number);
         }
     }
@@ -53,9 +73,10 @@ impl History {
     /// Where the next report begins, but for an overlap.
     fn next_begin(&self) -> u64 {
         let window = self.first_of_the_window();
-        match self.reported_to {
-            None => *self.arrived.range(window..).next().expect("H arrived"),
-            Some(last) => window.max(last + 1),
+        match (self.reported_to, self.first) {
+            (None, None) => *self.arrived.range(window..).next().expect("H arrived"),
+            (None, Some(first)) => window.max(first),
+            (Some(last), _) => window.max(last + 1),
         }
     }
 
@@ -69,13 +90,14 @@ impl History {
     }
 
     /// Checks the numbers of a report, each with whether it was received.
-    fn check(&self, told: &[(u64, bool)]) {
+    fn check(&self, told: &[(u64, bool)], overlap: u64) {
         let begin = told.first().map_or(self.highest + 1, |first| first.0);
-        let oldest = *self.arrived.first().expect("H arrived");
-        assert!(begin >= oldest, "{begin} is from before the oldest number that arrived");
+        let start = self.first.or(self.arrived.first().copied()).expect("H arrived");
+        assert!(begin >= start, "{begin} is from before {start}");
+        let repeated = self.next_begin().checked_sub(begin).expect("no number is left out");
         match self.reported_to {
-            None => assert_eq!(begin, self.next_begin()),
-            Some(_) => assert!(self.reported_from <= begin && begin <= self.next_begin()),
+            None => assert_eq!(repeated, 0),
+            Some(_) => assert!(self.reported_from <= begin && repeated <= overlap),
         }
         assert!(told.last().map_or(true, |last| last.0 == self.highest));
         assert!(told.windows(2).all(|pair| pair[0].0 + 1 == pair[1].0));
@@ -94,6 +116,7 @@ struct Trial<'m> {
     store: StoreIn<'m>,
     reporter: Reporter,
     overlap: u16,
+    arrivals: Arrivals,
     /// The next number of each stream's sender.
     next: [u64; PLACES + 2],
     histories: HashMap<u32, History>,
@@ -106,6 +129,10 @@ struct Seen {
     reports: usize,
     /// First reports on a stream of which one number arrived.
     of_one_arrival: usize,
+    /// First reports on a stream of which a number from before the first arrival came late.
+    after_an_older_number: usize,
+    /// First reports on a stream whose window has moved past the first arrival.
+    past_the_first: usize,
     /// Reports on a stream whose window has moved past the last number reported.
     past_the_window: usize,
     /// Arrivals that are told by the overlap alone.
@@ -114,12 +141,18 @@ struct Seen {
 
 impl Seen {
     fn count(&mut self, history: &History, told: &[(u64, bool)]) {
+        let window = history.first_of_the_window();
+        if let (None, Some(first)) = (history.reported_to, history.first) {
+            let older = history.arrived.range(window..).next().is_some_and(|n| *n < first);
+            self.after_an_older_number += usize::from(older);
+            self.past_the_first += usize::from(first < window);
+        }
         match history.reported_to {
             None if history.arrived.len() == 1 => {
                 assert_eq!(told.len(), 1);
                 self.of_one_arrival += 1;
             }
-            Some(last) if last < history.first_of_the_window() => self.past_the_window += 1,
+            Some(last) if last < window => self.past_the_window += 1,
             Some(last) => {
                 self.late += history.to_be_told.iter().filter(|number| **number <= last).count();
             }
@@ -141,7 +174,7 @@ impl Trial<'_> {
     fn packet(&mut self) -> Result<(), Refusal> {
         let ssrc = self.random.below(self.next.len() as u64) as u32;
         let next = &mut self.next[ssrc as usize];
-        *next += if self.random.one_in(3_000) { self.random.below(4_000) } else { 1 };
+        *next += if self.random.one_in(500) { self.random.below(4_000) } else { 1 };
         let behind = match self.random.below(80) {
             0 => self.random.below(2_000),
             1..=10 => self.random.below(60),
@@ -153,19 +186,24 @@ impl Trial<'_> {
         }
         match self.store.arrive(ssrc, number as u16, Mark::Ect1, Time::Unknown) {
             Err(Refusal::NoFreePlace) => assert!(!self.histories.contains_key(&ssrc)),
-            refused_or_not => {
-                refused_or_not?;
-                let overlap = self.overlap.into();
-                let histories = self.histories.entry(ssrc);
-                histories
-                    .and_modify(|history| history.arrive(number, overlap))
-                    .or_insert_with(|| History::starting_at(number));
-            }
+            refused_or_not => self.arrived(ssrc, number, refused_or_not?),
         }
         Ok(())
     }
 
-    /// Forgets a stream. The reporter is told, or sees at the next report that it is not held.
+    fn arrived(&mut self, ssrc: u32, number: u64, kind: ArrivalKind) {
+        let overlap = self.overlap.into();
+        let history = self.histories.entry(ssrc);
+        history
+            .and_modify(|history| history.arrive(number, overlap))
+            .or_insert_with(|| History::starting_at(number, self.arrivals));
+        if self.arrivals == Arrivals::Told {
+            self.reporter.arrived(ssrc, number as u16, kind);
+        }
+    }
+
+    /// Forgets a stream. The reporter is told, or sees at the next report that it is not held. If
+    /// it is told of the arrivals, the stream may be back by then.
     fn forget(&mut self) -> Result<(), Refusal> {
         let ssrc = self.random.below(self.next.len() as u64) as u32;
         if self.histories.remove(&ssrc).is_none() {
@@ -174,9 +212,10 @@ impl Trial<'_> {
         self.store.forget(ssrc)?;
         if self.random.one_in(2) {
             self.reporter.forget(ssrc);
-            return Ok(());
+        } else if self.arrivals == Arrivals::NotTold {
+            return self.report();
         }
-        self.report()
+        Ok(())
     }
 
     /// A report, which is sometimes written but not sent.
@@ -187,7 +226,7 @@ impl Trial<'_> {
         self.seen.reports += 1;
         for (ssrc, history) in &self.histories {
             let told = told.get(ssrc).map_or(&[] as &[_], |told| told);
-            history.check(told);
+            history.check(told, self.overlap.into());
             self.seen.count(history, told);
         }
         if self.random.one_in(20) {
@@ -220,7 +259,7 @@ impl Trial<'_> {
     }
 }
 
-fn trial(seed: u64, overlap: u16, steps: usize) -> Result<(), Refusal> {
+fn trial(seed: u64, overlap: u16, arrivals: Arrivals, steps: usize) -> Result<Seen, Refusal> {
     let (mut places, mut cells) = (vec![0; PLACES], vec![0; PLACES * CELLS_OF_A_PLACE]);
     let mut random = Random(seed);
     let next = [0; PLACES + 2].map(|_: u64| 65_536 + random.below(65_536));
@@ -229,6 +268,7 @@ fn trial(seed: u64, overlap: u16, steps: usize) -> Result<(), Refusal> {
         store: StoreIn::new(&mut places, &mut cells)?,
         reporter: Reporter::new(overlap),
         overlap,
+        arrivals,
         next,
         histories: HashMap::new(),
         seen: Seen::default(),
@@ -236,15 +276,30 @@ fn trial(seed: u64, overlap: u16, steps: usize) -> Result<(), Refusal> {
     for _ in 0..steps {
         trial.step()?;
     }
-    let Seen { reports, of_one_arrival, past_the_window, late } = trial.seen;
+    let Seen { reports, of_one_arrival, past_the_window, late, .. } = trial.seen;
     assert!(reports > steps / 100 && of_one_arrival > 0 && past_the_window > 0);
     assert!(late > reports || overlap == 0);
+    Ok(trial.seen)
+}
+
+#[test]
+fn random_arrivals_that_the_reporter_is_not_told_of() -> Result<(), Refusal> {
+    trial(1, 0, Arrivals::NotTold, STEPS * 5 / 10)?;
+    trial(2, 20, Arrivals::NotTold, STEPS * 4 / 10)?;
+    trial(3, u16::MAX, Arrivals::NotTold, STEPS / 10)?;
     Ok(())
 }
 
 #[test]
-fn random_arrivals_and_reports() -> Result<(), Refusal> {
-    trial(1, 0, STEPS * 5 / 10)?;
-    trial(2, 20, STEPS * 4 / 10)?;
-    trial(3, u16::MAX, STEPS / 10)
+fn random_arrivals_that_the_reporter_is_told_of() -> Result<(), Refusal> {
+    let trials = [(4, 0, STEPS * 4 / 10), (5, 20, STEPS * 3 / 10), (6, u16::MAX, STEPS / 20)];
+    let (mut after_an_older_number, mut past_the_first) = (0, 0);
+    for (seed, overlap, steps) in trials {
+        let seen = trial(seed, overlap, Arrivals::Told, steps)?;
+        after_an_older_number += seen.after_an_older_number;
+        past_the_first += seen.past_the_first;
+    }
+    assert!(after_an_older_number > 100, "{after_an_older_number}");
+    assert!(past_the_first > 5, "{past_the_first}");
+    Ok(())
 }

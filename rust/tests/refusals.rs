@@ -4,7 +4,8 @@
 
 mod common;
 
-use ccfb::{rewrite, Datagram, Mark, Packet, Refusal, Report, Request, SentPackets, Status, Time};
+use ccfb::{rewrite, ArrivalKind, Datagram, Mark, Packet, Refusal, Report, Request};
+use ccfb::{SentPackets, Status, Time, MOST_PASSED_OVER};
 use common::store_with;
 
 /// A packet of one block of four numbers.
@@ -35,9 +36,9 @@ fn by_the_store() {
     let mut arrive = |ssrc, number| store.arrive(ssrc, number, Mark::Ce, Time::Unknown);
     assert_eq!(arrive(8, 5_000), Err(Refusal::NoFreePlace));
     assert_eq!(arrive(7, 2_952), Err(Refusal::TooOld));
-    assert_eq!(arrive(7, 2_953), Ok(()));
+    assert_eq!(arrive(7, 2_953), Ok(ArrivalKind::Late));
     assert_eq!(arrive(7, 37_768), Err(Refusal::TooOld));
-    assert_eq!(arrive(7, 37_767), Ok(()));
+    assert_eq!(arrive(7, 37_767), Ok(ArrivalKind::Ahead { passed_over: MOST_PASSED_OVER }));
     assert_eq!(store.forget(8), Err(Refusal::NotHeld));
     assert_eq!(store.place(2), Err(Refusal::NotHeld));
     assert_eq!(store.forget(7), Ok(()));

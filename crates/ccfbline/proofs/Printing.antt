@@ -12,8 +12,7 @@ use Rattle.intake.specs.Intake.{IntakeAfter, intakeAfter, atStart}
 use Rattle.intake.specs.declared.Intake.{Intake}
 use Rattle.line_hex.specs.Hex.{putText}
 use Rattle.line_store.specs.Fresh.{freshPlaces, freshCells}
-use Rattle.line_report.specs.Report.{lineRoom}
-use Rattle.line.specs.Line.{finishedText}
+use Rattle.line.specs.Line.{textRoom, finishedText}
 use Rattle.line_laws.proofs.Printed.{prints-held}
 use Rattle.line_input.specs.Turn.{bufferOctets}
 use Rattle.line_input.specs.Taken.{PiecesTaken, InputTaken}
@@ -34,7 +33,7 @@ octets-flatten (p ∷ ps) o = octets-join p (flatten ps) (o .0) (octets-flatten 
 
 text-for : (i : Intake) (places cells buf : List ℕ) → bufferOctets ≤ length buf
     → PiecesTaken (intakeAfter atStart freshPlaces freshCells []) (intakeAfter i places cells buf)
-    → (out exit : List ℕ) (n : ℕ) → outputAfter n exit ≡ putText out (finishedText places cells i) → n ≤ lineRoom → TextFor out n exit
+    → (out exit : List ℕ) (n : ℕ) → outputAfter n exit ≡ putText out (finishedText places cells i) → n ≤ textRoom → TextFor out n exit
 text-for i places cells buf room taken out exit n e fits =
     let left : i .left ≤ length buf = omega arith in
     record {
@@ -59,11 +58,11 @@ taken-into places places₀ cells cells₀ after p c t =
 pub text-of : (places₀ cells₀ : List ℕ) → places₀ ≡ freshPlaces → cells₀ ≡ freshCells
     → (input : Input) (i : Intake) (places cells buf : List ℕ) → InputTaken places₀ cells₀ input places cells buf → input ≡ Taken i
     → bufferOctets ≤ length buf
-    → (out exit : List ℕ) (n : ℕ) → outputAfter n exit ≡ putText out (finishedText places cells i) → n ≤ lineRoom → TextFor out n exit
+    → (out exit : List ℕ) (n : ℕ) → outputAfter n exit ≡ putText out (finishedText places cells i) → n ≤ textRoom → TextFor out n exit
 text-of places₀ cells₀ p c input i places cells buf taken e room =
     text-for i places cells buf room
     (taken-into freshPlaces places₀ freshCells cells₀ (intakeAfter i places cells buf) p c
     (subst (λ (x : Input). InputTaken places₀ cells₀ x places cells buf) e taken))
 
-pub text-fits : (out : List ℕ) (r : Output) (n : ℕ) (exit : List ℕ) → OutputFor out r exit → r ≡ Text n → n ≤ lineRoom
+pub text-fits : (out : List ℕ) (r : Output) (n : ℕ) (exit : List ℕ) → OutputFor out r exit → r ≡ Text n → n ≤ textRoom
 text-fits out r n exit h e = let t : TextFor out n exit = subst (λ (x : Output). OutputFor out x exit) e h in t .fits

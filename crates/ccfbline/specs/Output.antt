@@ -8,7 +8,7 @@ use Rattle.octets.specs.Output.{outputAfter}
 use Rattle.intake.specs.Intake.{intakeAfter, atStart}
 use Rattle.line_hex.specs.Hex.{putText}
 use Rattle.line_store.specs.Fresh.{freshPlaces, freshCells}
-use Rattle.line_report.specs.Report.{lineRoom}
+use Rattle.line.specs.Line.{textRoom}
 use Rattle.line.specs.Printed.{printed}
 use Rattle.line_input.specs.Taken.{StopsAtFault}
 use Rattle.ccfbline.specs.declared.Output.{Output}
@@ -21,7 +21,7 @@ pub record TextFor (out : List ℕ) (n : ℕ) (exit : List ℕ) : Type 0 where
   pub octets : All Octets pieces
   pub stops : StopsAtFault (intakeAfter atStart freshPlaces freshCells []) pieces
   pub text : outputAfter n exit ≡ putText out (printed (flatten pieces))
-  pub fits : n ≤ lineRoom
+  pub fits : n ≤ textRoom
 
 -- an input that could not be read leaves the output as it was
 abbrev pub OutputFor : List ℕ → Output → List ℕ → Type 0

@@ -1,7 +1,7 @@
-// Takes an arrival file on standard input, and prints the feedback on its streams or the file's first fault.
+// Takes an arrival file on standard input, and prints the feedback on its streams and the gap, or the file's first fault.
 ghost use Prim.Native.Nat.{_≤_};
 ghost use lib.ListN.{length};
-ghost use Rattle.line_report.specs.Report.{lineRoom};
+ghost use Rattle.line.specs.Line.{textRoom};
 ghost use Rattle.ccfbline.specs.Output.{OutputFor};
 use libc::STDOUT_FILENO;
 use line_input::Input;
@@ -14,7 +14,7 @@ enum Output {
 
 // Takes the input into a fresh store, and writes what is to be printed to the front of the output.
 fn put_output(out: &mut [u8]) -> Output
-    requires room { ⌜ lineRoom ≤ length (now out) ⌝ }
+    requires room { ⌜ textRoom ≤ length (now out) ⌝ }
     ensures after { λ r. ⌜ OutputFor (now (out .entry)) r (now (out .exit)) ⌝ }
 {
     let mut places = line_store::fresh_places();

@@ -41,8 +41,10 @@ filledWord mark (Known t) = leastTimed + mark + kinds * t
 unfoldable pub foldedMark : ℕ → ℕ → ℕ
 foldedMark held copy = cond (eqb copy congested) congested held
 
--- an empty cell is filled; an arrival whose cell is filled is a copy: rule "First copy", and the
--- mark is folded
+-- rule "First copy": a filled cell after a copy keeps its time, and its mark is folded
+abbrev pub copiedWord : ℕ → ℕ → ℕ
+copiedWord mark word = word / 4 * 4 + foldedMark (word % 4) mark
+
+-- an empty cell is filled; an arrival whose cell is filled is a copy
 unfoldable pub wordAfter : ℕ → Time → ℕ → ℕ
-wordAfter mark time word =
-    cond (ltb (word % kinds) leastFilled) (filledWord mark time) (word / 4 * 4 + foldedMark (word % 4) mark)
+wordAfter mark time word = cond (ltb (word % kinds) leastFilled) (filledWord mark time) (copiedWord mark word)

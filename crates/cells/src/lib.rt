@@ -2,7 +2,7 @@
 ghost use mathlib.Core.Path.{_≡_};
 ghost use Prim.Native.Nat.{_≤_};
 ghost use Rattle.metric.specs.Metric.{congested};
-ghost use Rattle.cells.specs.Cell.{foldedMark, filledWord, wordAfter};
+ghost use Rattle.cells.specs.Cell.{foldedMark, filledWord, copiedWord};
 use metric::Time;
 
 // A word has one of 16 kinds: one of LEAST_FILLED or more is filled, one of LEAST_TIMED or more at a known time.
@@ -44,13 +44,10 @@ pub fn filled_word(mark: u8, time: Time) -> u64
     }
 }
 
-// A cell's word after an arrival.
-pub fn word_after(word: u64, mark: u8, time: Time) -> u64
+// The word of a filled cell after a copy: its time stays, and its mark is folded.
+pub fn copied_word(word: u64, mark: u8) -> u64
     requires sound_mark { ⌜ mark ≤ congested ⌝ }
-    ensures value { λ r. ⌜ r ≡ wordAfter mark time word ⌝ }
+    ensures value { λ r. ⌜ r ≡ copiedWord mark word ⌝ }
 {
-    if word % KINDS < LEAST_FILLED {
-        return filled_word(mark, time);
-    }
     word / 4 * 4 + (fold_mark((word % 4) as u8, mark) as u64)
 }

@@ -124,7 +124,7 @@ module _ (st : Store) (new : Fresh st) (cs : List Call) (range : All CallInRange
   pub same-place : (k : ℕ) → placeOf (storeRun st cs .places) (storeRun st cs .cells) k ≡ modelPlace (at model k)
   same-place k = place-alike (storeRun st cs) model same-reading k
 
-  kept : Kept model history
+  pub kept : Kept model history
   kept = subst (λ (xs : List CallAnswer). Kept model (λ (y : ℕ). acceptedOf y cs xs)) (sym same-answers)
       (run-kept cs (vacant (length (st .places))) (λ (y : ℕ). []) (vacant-kept (length (st .places))))
 

@@ -9,7 +9,7 @@ use Rattle.metric.specs.declared.Cell.{Cell}
 use Rattle.metric.specs.Metric.{TimeInRange, congested, times}
 use Rattle.streams.specs.Reading.{Lawful, Enters}
 use Rattle.cells.specs.Cell.{wordTime, readCell, filledWord, foldedMark, wordAfter, leastFilled, kinds, leastTimed}
-use Rattle.cells.proofs.Words.{folded-small, after-empty, after-filled}
+use Rattle.cells.proofs.Words.{folded-small, read-empty, read-filled, after-empty, after-filled}
 use Rattle.history.specs.Calls.{Accepted}
 use Rattle.history.specs.Meaning.{entryOf}
 use Rattle.history.specs.Reading.{arrivalMeaning}
@@ -19,14 +19,6 @@ use Rattle.metric.specs.declared.Cell.the-variants.{Empty, Filled}
 
 -- ---- one cell
 module _ (word : ℕ) where
-  read-empty : word % kinds < leastFilled → readCell word ≡ Empty
-  unfolding readCell
-  read-empty l = simp (lt-ltb (word % kinds) leastFilled l)
-
-  read-filled : leastFilled ≤ word % kinds → readCell word ≡ Filled (word % 4) (wordTime word)
-  unfolding readCell
-  read-filled l = simp (le-ltb (word % kinds) leastFilled l)
-
   time-unknown : word % kinds < leastTimed → wordTime word ≡ Unknown
   unfolding wordTime
   time-unknown l = simp (lt-ltb (word % kinds) leastTimed l)

@@ -14,12 +14,13 @@ use Rattle.streams.specs.Full.{fullOf, firstFull}
 use Rattle.streams.specs.Model.{Place, free, stream, ModelAfter, findIn, streamIn, vacant}
 use Rattle.streams.specs.Alone.{Once, Only, nextFull, withOne, Admitted, entered, kept}
 use Rattle.streams.proofs.Alone.{admitted-as, found-only, vacant-once, vacant-stream}
-use Rattle.later_arrivals.specs.declared.Arrival.{Arrival}
+use Rattle.admission.specs.declared.Arrival.{Arrival}
+use Rattle.admission.specs.declared.ArrivalKind.{ArrivalKind}
 use Rattle.history.specs.Calls.{Call, arrive, forget, toArrival, toForgetting, Accepted, isDone, heard, heardAll}
 use Rattle.history.specs.Meaning.{Entry, entryOf, countFrom, topFrom, entriesOf, topOf}
-use Rattle.history.specs.Model.{modelArrived, forgotAt, modelForgot, modelStep, modelAnswer, modelRun, modelAnswers}
+use Rattle.history.specs.Model.{modelKind, modelArrived, forgotAt, modelForgot, modelStep, modelAnswer, modelRun, modelAnswers}
 use Rattle.lists.specs.declared.Found.the-variants.{At, Nothing}
-use Rattle.later_arrivals.specs.declared.Arrival.the-variants as arrival
+use Rattle.admission.specs.declared.Arrival.the-variants as arrival
 
 -- a stream with its accepted arrivals
 abbrev pub placeBy : ℕ → List Accepted → Place Entry
@@ -90,17 +91,17 @@ module _ (ps : List (Place Entry)) (acc : ℕ → List Accepted) (K : Kept ps ac
     own-entry : withOne (entryOf new) x (streamIn ps x) (nextFull (streamIn ps x) number) ≡ placeBy x (heard x (acc x) call true)
     own-entry = rw (K .each x, own-arrival) (one-more x new (acc x))
 
-    admitted-kept : (o : ModelAfter Entry Arrival) → Admitted (entryOf new) arrival.Accepted arrival.Refused ps x number o → Goal o
-    admitted-kept o (entered ps′ only) =
+    admitted-kept : (k : ArrivalKind) (o : ModelAfter Entry Arrival) → Admitted (entryOf new) (arrival.Accepted k) arrival.Refused ps x number o → Goal o
+    admitted-kept k o (entered ps′ only) =
         changed-kept call x ps′ (withOne (entryOf new) x (streamIn ps x) (nextFull (streamIn ps x) number)) only own-entry (λ y n. rw (ne-eqb x y n))
-    admitted-kept o (kept e) = refused-kept call
+    admitted-kept k o (kept e) = refused-kept call
 
     arrived-kept : Goal (modelArrived ps x number mark time)
     arrived-kept =
         elim (decLe mark congested) [
           | yes m ↦
               rw (le-ltb congested mark m)
-              (admitted-kept _ (admitted-as (entryOf new) ps (K .once) x number arrival.Accepted arrival.Refused))
+              (admitted-kept _ _ (admitted-as (entryOf new) ps (K .once) x number (arrival.Accepted (modelKind (streamIn ps x) number)) arrival.Refused))
           | no m ↦ rw (lt-ltb congested mark (omega arith)) (refused-kept call)
         ]
 

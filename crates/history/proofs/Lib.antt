@@ -1,8 +1,10 @@
 pub mod Copies
 pub mod Cells
+pub mod KindAlike
 pub mod Simulation
 pub mod Heard
 pub mod Numbers
 pub mod Filled
 pub mod ByHistory
+pub mod KindByHistory
 pub mod Refusals

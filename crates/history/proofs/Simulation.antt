@@ -13,7 +13,7 @@ use Rattle.lists.specs.declared.Found.{Found}
 use Rattle.metric.specs.declared.Time.{Time}
 use Rattle.metric.specs.Metric.{TimeInRange, congested}
 use Rattle.window.specs.Number.{sequenceNumbers}
-use Rattle.places.specs.Place.{readPlace, placeAt}
+use Rattle.places.specs.Place.{readPlace, placeAt, findOf}
 use Rattle.places.specs.declared.Holding.{Holding}
 use Rattle.places.proofs.Places.{read-zero}
 use Rattle.places.proofs.Shape.{shaped-is}
@@ -23,6 +23,7 @@ use Rattle.streams.proofs.Places.{find-same, there-in, replaced}
 use Rattle.streams.proofs.Admission.{Alike, admit-alike}
 use Rattle.streams.proofs.Runs.{simulated}
 use Rattle.cells.specs.Cell.{wordAfter}
+use Rattle.admission.specs.Kind.{kindAt}
 use Rattle.arrivals.specs.Arrivals.{arrived}
 use Rattle.store.specs.Store.{forgottenAt, forgotten, answerOf, placeOf}
 use Rattle.history.specs.Calls.{Call, arrive, forget, toArrival, toForgetting, storeStep, storeAnswer, storeRun, storeAnswers, Accepted, CallInRange}
@@ -30,8 +31,9 @@ use Rattle.history.specs.Meaning.{Entry, entryOf}
 use Rattle.history.specs.Model.{modelArrived, forgotAt, modelForgot, modelPlace, modelStep, modelAnswer, modelRun, modelAnswers}
 use Rattle.history.specs.Reading.{arrivalMeaning, Reads}
 use Rattle.history.proofs.Cells.{arrival-laws, arrival-enters}
+use Rattle.history.proofs.KindAlike.{same-admitted}
 use Rattle.lists.specs.declared.Found.the-variants.{At, Nothing}
-use Rattle.later_arrivals.specs.declared.Arrival.the-variants as arrival
+use Rattle.admission.specs.declared.Arrival.the-variants as arrival
 
 module _ (st : Store) (ps : List (Place Entry)) (R : Reads st ps) where
   -- an arrival
@@ -42,9 +44,9 @@ module _ (st : Store) (ps : List (Place Entry)) (R : Reads st ps) where
       rw (shaped-is (st .places) (st .cells) (R .shape))
       (elim (decLe mark congested) [
         | yes m ↦
-            rw (le-ltb congested mark m)
+            rw (le-ltb congested mark m, ← same-admitted st ps R (entryOf a) ssrc number n)
             (admit-alike arrivalMeaning arrival-laws st ps R (wordAfter mark time) (entryOf a) (λ full. refl) (arrival-enters a m t)
-            ssrc number n arrival.Accepted arrival.Refused s)
+            ssrc number n (arrival.Accepted (kindAt (findOf (st .places) ssrc) (st .places) (st .cells) number)) arrival.Refused s)
         | no m ↦ rw (lt-ltb congested mark (omega arith)) (record { answer = refl; reads = R })
       ])
 

@@ -8,12 +8,12 @@ use Rattle.metric.specs.declared.Time.{Time}
 use Rattle.metric.specs.Metric.{TimeInRange}
 use Rattle.arrivals.specs.Arrivals.{arrived}
 use Rattle.store.specs.Store.{forgotten}
-use Rattle.later_arrivals.specs.declared.Arrival.{Arrival}
+use Rattle.admission.specs.declared.Arrival.{Arrival}
 use Rattle.store.specs.declared.Forgetting.{Forgetting}
 use Rattle.window.specs.Number.{sequenceNumbers}
 use Rattle.streams.specs.Reading.{Store}
 use Rattle.streams.specs.Runs.{run, answers}
-use Rattle.later_arrivals.specs.declared.Arrival.the-variants as arrival
+use Rattle.admission.specs.declared.Arrival.the-variants as arrival
 use Rattle.store.specs.declared.Forgetting.the-variants as forgetting
 
 -- arrive: SSRC, sequence number, mark, time. forget: SSRC
@@ -48,7 +48,7 @@ pub record Accepted : Type 0 where
   pub time : Time
 
 abbrev pub isDone : CallAnswer → Bool
-isDone (toArrival arrival.Accepted) = true
+isDone (toArrival (arrival.Accepted kind)) = true
 isDone (toArrival (arrival.Refused e)) = false
 isDone (toForgetting forgetting.Forgotten) = true
 isDone (toForgetting (forgetting.Refused e)) = false

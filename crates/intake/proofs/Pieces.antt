@@ -80,8 +80,8 @@ module _ {S : Type 0} (step : S → Record → S) where
 pub short-left : (places cells s s′ : List ℕ) (places′ cells′ : List ℕ) (i r : Intake)
     → intakeAfter r places′ cells′ s′ ≡ fedOf places cells i s → r .left < recordOctets
 short-left places cells s s′ places′ cells′ i r e =
-    let l : r .left ≡ length (takenHere afterRecord (i .phase) (recorded places cells (i .rts)) s .left) = ap (λ (o : IntakeAfter). o .intake .left) e in
-    omega (arith, taken-here-short afterRecord (i .phase) (recorded places cells (i .rts)) s)
+    let l : r .left ≡ length (takenHere afterRecord (i .phase) (recorded places cells (i .rts) (i .gap)) s .left) = ap (λ (o : IntakeAfter). o .intake .left) e in
+    omega (arith, taken-here-short afterRecord (i .phase) (recorded places cells (i .rts) (i .gap)) s)
 
 -- what was put at the front stands there
 front : (s t : List ℕ) → length t ≤ length s → take (length t) (sets s 0 t) ≡ t
@@ -114,5 +114,5 @@ first places cells = intakeAfter intake.atStart places cells []
 
 -- Once `feed` has been called with every piece, the file has given what its records make of the store, or its first fault.
 pub all-calls : (places cells : List ℕ) (ps : List (List ℕ))
-    → ended (heldIn (foldl fedNext (first places cells) ps)) ≡ allTaken afterRecord (recorded places cells 0) (fileOf (flatten ps))
-all-calls places cells ps = ap ended (calls (first places cells) ps) ∙ pieces afterRecord (recorded places cells 0) ps
+    → ended (heldIn (foldl fedNext (first places cells) ps)) ≡ allTaken afterRecord (recorded places cells 0 0) (fileOf (flatten ps))
+all-calls places cells ps = ap ended (calls (first places cells) ps) ∙ pieces afterRecord (recorded places cells 0 0) ps

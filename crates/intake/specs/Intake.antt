@@ -11,7 +11,7 @@ use Rattle.arrival_file.specs.declared.Phase.the-variants.{Header}
 -- ---- the calls
 
 abbrev pub atStart : Intake
-atStart = record { phase = Header; rts = 0; left = 0 }
+atStart = record { phase = Header; rts = 0; gap = 0; left = 0 }
 
 -- the answer of `feed`, and what it leaves in the store and in the octets
 pub record IntakeAfter : Type 0 where
@@ -26,11 +26,11 @@ intakeAfter i p c s = record { intake = i; places = p; cells = c; octets = s }
 -- the octets that are not taken come to the front
 abbrev pub kept : Feeding Recorded → List ℕ → IntakeAfter
 kept f s =
-    intakeAfter (record { phase = f .phase; rts = f .made .rts; left = length (f .left) }) (f .made .places) (f .made .cells)
+    intakeAfter (record { phase = f .phase; rts = f .made .rts; gap = f .made .gap; left = length (f .left) }) (f .made .places) (f .made .cells)
     (sets s 0 (f .left))
 
 abbrev pub fedOf : List ℕ → List ℕ → Intake → List ℕ → IntakeAfter
-fedOf places cells i s = kept (takenHere afterRecord (i .phase) (recorded places cells (i .rts)) s) s
+fedOf places cells i s = kept (takenHere afterRecord (i .phase) (recorded places cells (i .rts) (i .gap)) s) s
 
 -- ---- call after call
 
@@ -44,4 +44,4 @@ fedNext o piece = fedOf (o .places) (o .cells) (o .intake) (leftOf o ++ piece)
 
 -- what a caller has between two calls
 abbrev pub heldIn : IntakeAfter → Feeding Recorded
-heldIn o = feeding (o .intake .phase) (recorded (o .places) (o .cells) (o .intake .rts)) (leftOf o)
+heldIn o = feeding (o .intake .phase) (recorded (o .places) (o .cells) (o .intake .rts) (o .intake .gap)) (leftOf o)

@@ -4,11 +4,12 @@ ghost use Rattle.places.specs.Shape.{Shaped};
 ghost use Rattle.intake.specs.Intake.{atStart, intakeAfter, fedOf};
 use arrival_file::Phase;
 
-// Where the taking of a file stands: its phase, RTS (the last known time so far, else 0), and how many octets are not
-// taken yet.
+// Where the taking of a file stands: its phase, RTS (the last known time so far, else 0), the gap (the most numbers that
+// an arrival so far passed over, else 0), and how many octets are not taken yet.
 pub struct Intake {
     pub phase: Phase,
     pub rts: u32,
+    pub gap: u16,
     pub left: usize,
 }
 
@@ -19,6 +20,7 @@ pub fn start() -> Intake
     Intake {
         phase: Phase::Header,
         rts: 0,
+        gap: 0,
         left: 0,
     }
 }
@@ -33,13 +35,14 @@ pub fn feed(places: &mut [u64], cells: &mut [u64], intake: Intake, octets: &mut 
         ≡ fedOf (now (places .entry)) (now (cells .entry)) intake (now (octets .entry)) ⌝ }
 {
     let before = intake.phase;
-    let t = taking::take(places, cells, octets, before, intake.rts);
+    let t = taking::take(places, cells, octets, before, intake.rts, intake.gap);
     let phase = t.phase;
     let at = t.at;
     octets_move::move_to_front(octets, at);
     Intake {
         phase: phase,
         rts: t.rts,
+        gap: t.gap,
         left: octets.len() - at,
     }
 }

@@ -1,3 +1,4 @@
 pub mod Streams
 pub mod Records
 pub mod Printed
+pub mod Gap

@@ -20,7 +20,7 @@ use Rattle.places.specs.Shape.{Shaped, Misshapen}
 use Rattle.places.specs.After.{StoreAfter}
 use Rattle.places.proofs.Shape.{shaped-is, misshapen-is}
 use Rattle.arrivals.specs.Arrivals.{arrived}
-use Rattle.later_arrivals.specs.declared.Arrival.{Arrival}
+use Rattle.admission.specs.declared.Arrival.{Arrival}
 use Rattle.streams.specs.Reading.{Store, Fresh}
 use Rattle.streams.proofs.Fresh.{zeroed-fresh}
 use Rattle.history.specs.Calls.{CallInRange, storeRun}
@@ -40,6 +40,7 @@ use Rattle.line_store.specs.Fresh.{freshPlaces, freshCells, linePlaces}
 use Rattle.line_report.specs.Report.{requestedText}
 use Rattle.line.specs.Line.{ifWhole, finishedText}
 use Rattle.line_newest.specs.Newest.{reportText}
+use Rattle.line_gap.specs.Gap.{gapLine}
 use Rattle.line.specs.Printed.{fresh, reportOf, printedOf, printed}
 use Rattle.line_laws.specs.Laws.{Answered, LastTime, fedPieces}
 use Rattle.line_laws.proofs.Records.{callOf, InRange, file-range, calls-range}
@@ -81,25 +82,27 @@ reached rs range =
     }
 
 -- the writer refuses nothing
-report-is : (x : Recorded) → Reached x → reportText (x .places) (x .cells) (x .rts) ≡ reportOf x
+report-is : (x : Recorded) → Reached x → reportText (x .places) (x .cells) (x .rts) ++ gapLine (x .gap) ≡ reportOf x
 unfolding requestedText
 report-is x r = rw (shaped-is (x .places) (x .cells) (r .shape), sound-requests (x .places) (r .once))
 
 -- ---- what is printed
 
 abbrev textOf : Result Recorded → List ℕ
-textOf (sound x) = reportText (x .places) (x .cells) (x .rts)
+textOf (sound x) = reportText (x .places) (x .cells) (x .rts) ++ gapLine (x .gap)
 textOf (faulty e) = refusedLine e
 
 finished-is : (o : intake.IntakeAfter) → length (leftOf o) ≡ o .intake .left
     → finishedText (o .places) (o .cells) (o .intake) ≡ textOf (ended (heldIn o))
 unfolding finishedText
 finished-is o e =
-    ap (λ (n : ℕ). ifWhole (endOf (o .intake .phase) n) (reportText (o .places) (o .cells) (o .intake .rts))) (sym e)
+    ap (λ (n : ℕ). ifWhole (endOf (o .intake .phase) n) text) (sym e)
     ∙ go (endOf (o .intake .phase) (length (leftOf o)))
   where
-    go : (v : Check) → ifWhole v (reportText (o .places) (o .cells) (o .intake .rts))
-        ≡ textOf (resultOf v (recorded (o .places) (o .cells) (o .intake .rts)))
+    text : List ℕ
+    text = reportText (o .places) (o .cells) (o .intake .rts) ++ gapLine (o .intake .gap)
+
+    go : (v : Check) → ifWhole v text ≡ textOf (resultOf v (recorded (o .places) (o .cells) (o .intake .rts) (o .intake .gap)))
     go check.Sound = refl
     go (check.Refused e) = refl
 
@@ -178,8 +181,10 @@ answered-by places cells ssrc number mark o s m (given.ArrivalGiven.badStore w) 
 answered-by places cells ssrc number mark o s m (given.ArrivalGiven.badMark t h) = absurd (omega arith)
 answered-by places cells ssrc number mark o s m (given.ArrivalGiven.tooOld t l p high k q) = Answered.tooOld
 answered-by places cells ssrc number mark o s m (given.ArrivalGiven.noFreePlace t l u v) = Answered.noFreePlace
-answered-by places cells ssrc number mark o s m (given.ArrivalGiven.later t l p high k q a b) = Answered.accepted
-answered-by places cells ssrc number mark o s m (given.ArrivalGiven.first t l u k v a b) = Answered.accepted
+answered-by places cells ssrc number mark o s m (given.ArrivalGiven.ahead t l p high k q f a b) = Answered.accepted _
+answered-by places cells ssrc number mark o s m (given.ArrivalGiven.late t l p high k q e a b) = Answered.accepted _
+answered-by places cells ssrc number mark o s m (given.ArrivalGiven.copy t l p high k q h w e a b) = Answered.accepted _
+answered-by places cells ssrc number mark o s m (given.ArrivalGiven.first t l u k v a b) = Answered.accepted _
 
 all-before : (qs : List Record) (r : Record) (more : List Record) → All InRange (qs ++ r ∷ more) → All InRange qs × InRange r
 all-before [] r more h = (tt, h .0)

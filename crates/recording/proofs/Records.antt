@@ -8,12 +8,12 @@ use lib.Seq.{take-all, drop-length, drop-drop}
 use Rattle.refusal.specs.declared.Refusal.{Refusal}
 use Rattle.places.specs.After.{storeAfter}
 use Rattle.arrivals.specs.Arrivals.{arrived}
-use Rattle.later_arrivals.specs.declared.Arrival.{Arrival}
+use Rattle.admission.specs.declared.Arrival.{Arrival}
 use Rattle.arrival_record.specs.Record.{recordReadOf, recordOctets}
 use Rattle.arrival_record.specs.declared.Record.{Record}
 use Rattle.arrival_record.specs.declared.RecordRead.{RecordRead}
 use Rattle.arrival_file.specs.Pieces.{Feeding, feeding, taken}
-use Rattle.recording.specs.Recorded.{Recorded, recorded, lastKnown, recordedAfter, afterRecord}
+use Rattle.recording.specs.Recorded.{Recorded, recorded, lastKnown, gapAfter, recordedAfter, afterRecord}
 use Rattle.recording.specs.Steps.{TakenTo}
 use Rattle.arrival_record.specs.declared.RecordRead.the-variants as entry
 use Rattle.arrival_file.specs.declared.Phase.the-variants.{Records, Faulty}
@@ -44,24 +44,29 @@ lent : (s : List ℕ) (at : ℕ) → take (length s - at) (drop at s) ≡ drop a
 lent s at = take-all (length s - at) (drop at s) (omega (arith, length-drop at s))
 
 -- a turn of the loop of `take_records`
-module _ (s : List ℕ) (at : ℕ) (places cells : List ℕ) (last : ℕ) (h : at + recordOctets ≤ length s) (y : RecordRead)
+module _ (s : List ℕ) (at : ℕ) (places cells : List ℕ) (last gap : ℕ) (h : at + recordOctets ≤ length s) (y : RecordRead)
     (read : y ≡ recordReadOf (take (length s - at) (drop at s))) where
-  pub turn-record : (r : Record) (a : Arrival) (places′ cells′ : List ℕ) (last′ : ℕ) → y ≡ entry.Record r
+  abbrev before : Recorded
+  before = recorded places cells last gap
+
+  pub turn-record : (r : Record) (a : Arrival) (places′ cells′ : List ℕ) (last′ gap′ : ℕ) → y ≡ entry.Record r
       → storeAfter a places′ cells′ ≡ arrived places cells (r .ssrc) (r .number) (r .mark) (r .time)
-      → last′ ≡ lastKnown last (r .time)
-      → taken afterRecord (length (drop (at + recordOctets) s) / recordOctets) (recorded places′ cells′ last′) (drop (at + recordOctets) s)
-      ≡ taken afterRecord (length (drop at s) / recordOctets) (recorded places cells last) (drop at s)
+      → last′ ≡ lastKnown last (r .time) → gap′ ≡ gapAfter gap a
+      → taken afterRecord (length (drop (at + recordOctets) s) / recordOctets) (recorded places′ cells′ last′ gap′) (drop (at + recordOctets) s)
+      ≡ taken afterRecord (length (drop at s) / recordOctets) before (drop at s)
   unfolding afterRecord
-  turn-record r a places′ cells′ last′ e is known =
-      let x : recorded places′ cells′ last′ ≡ afterRecord (recorded places cells last) r =
-      ap (λ o. recordedAfter o last′) is ∙ ap (recordedAfter (arrived places cells (r .ssrc) (r .number) (r .mark) (r .time))) known in
-      rw x (sym (one-taken s at (recorded places cells last) h r (sym (read ∙ ap recordReadOf (lent s at)) ∙ e)))
+  turn-record r a places′ cells′ last′ gap′ e is known larger =
+      let x : recorded places′ cells′ last′ gap′ ≡ afterRecord before r =
+      ap (recorded places′ cells′ last′) larger
+      ∙ ap (λ o. recordedAfter o last′ gap) is
+      ∙ ap (λ t. recordedAfter (arrived places cells (r .ssrc) (r .number) (r .mark) (r .time)) t gap) known in
+      rw x (sym (one-taken s at before h r (sym (read ∙ ap recordReadOf (lent s at)) ∙ e)))
 
   pub turn-refused : (q : Refusal) (f : Feeding Recorded) → y ≡ entry.Refused q
-      → taken afterRecord (length (drop at s) / recordOctets) (recorded places cells last) (drop at s) ≡ f
-      → TakenTo places cells s (record { phase = Faulty q; rts = last; at = length s }) f
+      → taken afterRecord (length (drop at s) / recordOctets) before (drop at s) ≡ f
+      → TakenTo places cells s (record { phase = Faulty q; rts = last; gap = gap; at = length s }) f
   turn-refused q f e i =
       record {
         within = omega arith;
-        is = rw (drop-length s) (sym (none-taken s at (recorded places cells last) h q (sym (read ∙ ap recordReadOf (lent s at)) ∙ e)) ∙ i);
+        is = rw (drop-length s) (sym (none-taken s at before h q (sym (read ∙ ap recordReadOf (lent s at)) ∙ e)) ∙ i);
       }

@@ -10,4 +10,4 @@ use Rattle.recording.specs.Recorded.{Recorded, recorded}
 -- so far were the octets s taken
 pub record TakenTo (places cells s : List ℕ) (t : Taken) (f : Feeding Recorded) : Type 0 where
   pub within : t .at ≤ length s
-  pub is : feeding (t .phase) (recorded places cells (t .rts)) (drop (t .at) s) ≡ f
+  pub is : feeding (t .phase) (recorded places cells (t .rts) (t .gap)) (drop (t .at) s) ≡ f

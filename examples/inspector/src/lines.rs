@@ -1,8 +1,9 @@
 //! The lines of the input.
 
 use crate::{datagram, hex, strip, walk};
-use ccfb::{Datagram, Packet, Refusal};
+use ccfb::{Datagram, Packet, Refusal, MOST_PASSED_OVER};
 use std::io::{self, BufRead, Write};
+use std::str::FromStr;
 
 /// Shows every line that is not empty, under its number from 1, and gives each accepted packet to
 /// `take`. The legend of the strips comes before the first datagram that has one.
@@ -29,16 +30,20 @@ pub fn inspect(
                 writeln!(output, "line {number}: {}", datagram::readable(&datagram))?;
                 accepted.for_each(|packet| take(&packet));
             }
-            Err(fault) => writeln!(output, "line {number}: {fault}")?,
+            Err(said) => writeln!(output, "line {number}: {said}")?,
         }
     }
     output.flush()
 }
 
-/// The datagram of a line, read from its octets. The error says in words why there is none.
+/// The datagram of a line, read from its octets. The error says in words why there is none, or
+/// what `ccfbline` says in the line.
 fn read<'a>(line: &[u8], octets: &'a mut Vec<u8>) -> Result<Datagram<'a>, String> {
     if let Some(refusal) = refused_file(line) {
         return Err(format!("ccfbline {refusal}"));
+    }
+    if let Some(gap) = gap(line) {
+        return Err(format!("ccfbline gap {gap}: {}", passed_over(gap)));
     }
     *octets = hex::octets(line).map_err(|fault| format!("not hex: {fault}"))?;
     Datagram::read(octets).map_err(|refusal| {
@@ -49,8 +54,26 @@ fn read<'a>(line: &[u8], octets: &'a mut Vec<u8>) -> Result<Datagram<'a>, String
 
 /// The refusal in the line `refused N`, which `ccfbline` prints for a bad arrival file.
 fn refused_file(line: &[u8]) -> Option<Refusal> {
-    let number = line.strip_prefix(b"refused ")?;
-    Refusal::of_number(std::str::from_utf8(number).ok()?.parse().ok()?)
+    Refusal::of_number(number_after(b"refused ", line)?)
+}
+
+/// The count in the line `gap N`, which `ccfbline` prints after the packet.
+fn gap(line: &[u8]) -> Option<u16> {
+    number_after(b"gap ", line).filter(|gap| *gap <= MOST_PASSED_OVER)
+}
+
+/// The number that follows a word, if that is all of the line.
+fn number_after<N: FromStr>(word: &[u8], line: &[u8]) -> Option<N> {
+    std::str::from_utf8(line.strip_prefix(word)?).ok()?.parse().ok()
+}
+
+/// What a gap means, in words.
+fn passed_over(gap: u16) -> String {
+    match gap {
+        0 => "no number was passed over".to_string(),
+        1 => "at most 1 number was passed over at once".to_string(),
+        _ => format!("at most {gap} numbers were passed over at once"),
+    }
 }
 
 fn has_numbers(packet: &Packet) -> bool {
@@ -102,6 +125,17 @@ mod tests {
         assert_eq!(lines[0], "line 1: 4 octets, refused 21: packet shorter than 12 octets");
         assert!(lines[1].starts_with("line 2: ccfbline refused 13: "));
         assert_eq!(lines[2], "line 3: not hex: 'r' in column 1");
+    }
+
+    #[test]
+    fn the_gap_that_ccfbline_prints_is_put_into_words() {
+        let (text, taken) = shown("gap 0\ngap 1\ngap 32766\ngap 32767\ngap\n");
+        assert_eq!(taken, 0);
+        let lines: Vec<&str> = text.lines().collect();
+        assert_eq!(lines[0], "line 1: ccfbline gap 0: no number was passed over");
+        assert_eq!(lines[1], "line 2: ccfbline gap 1: at most 1 number was passed over at once");
+        assert!(lines[2].ends_with(": at most 32766 numbers were passed over at once"));
+        assert_eq!(lines[3..], [4, 5].map(|line| format!("line {line}: not hex: 'g' in column 1")));
     }
 
     #[test]

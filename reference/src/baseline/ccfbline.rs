@@ -4,7 +4,6 @@ use super::metric::CE;
 use super::{store, writer};
 use crate::calls::store::Words;
 use crate::cutting::Request;
-use crate::metric::Arrived;
 use crate::refusal::Refusal;
 use crate::writer::Report;
 use std::io::{self, Read, Write};
@@ -24,10 +23,11 @@ const LIMIT: usize = 1_200;
 /// How many numbers of each stream are reported.
 const NEWEST: u16 = 4;
 
-/// The store, and the last known time.
+/// The store, the last known time, and the most numbers that an arrival passed over.
 struct State {
     words: Words,
     rts: u32,
+    gap: u16,
 }
 
 impl State {
@@ -46,9 +46,12 @@ impl State {
                 return Err(Refusal::BadRecord);
             }
             self.rts = time.unwrap_or(self.rts);
-            let arrived = Arrived { mark, time };
+            let filled = store::filled_word(mark, time.is_some(), time.unwrap_or(0));
+            let Words { places, cells } = &mut self.words;
             // A record that the store refuses, with 2 or 3, is skipped.
-            let _ = store::BASELINE.arrive(&mut self.words, ssrc, number, arrived, 0);
+            if let Ok(arrival) = store::record(places, cells, ssrc, number, mark, filled) {
+                self.gap = self.gap.max(arrival.passed_over);
+            }
         }
         Ok(())
     }
@@ -64,12 +67,11 @@ impl State {
         let mut out = [0; LIMIT];
         let written = writer::BASELINE.write(&self.words, report, &requests, &mut out);
         let (_, octets) = written.expect("good requests");
-        let hex: String = out[..octets].iter().map(|octet| format!("{octet:02x}")).collect();
-        if hex.is_empty() {
-            hex
-        } else {
-            hex + "\n"
+        let mut lines: String = out[..octets].iter().map(|octet| format!("{octet:02x}")).collect();
+        if !lines.is_empty() {
+            lines.push('\n');
         }
+        lines + &format!("gap {}\n", self.gap)
     }
 }
 
@@ -82,7 +84,7 @@ fn read_all(input: &mut impl Read) -> io::Result<Result<String, Refusal>> {
     if !header.ends_with(&VERSION) {
         return Ok(Err(Refusal::BadFileVersion));
     }
-    let mut state = State { words: Words::fresh(PLACES), rts: 0 };
+    let mut state = State { words: Words::fresh(PLACES), rts: 0, gap: 0 };
     let mut chunk = Vec::with_capacity(CHUNK);
     loop {
         chunk.clear();

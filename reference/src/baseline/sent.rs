@@ -5,6 +5,7 @@ use super::packet::{self, be16, be32, Found, BEGIN_AT, RTS_OCTETS};
 use super::store::{admit, find, is_shaped, ring_of, stream, CELLS_OF_A_PLACE};
 use crate::calls::metric as kinds;
 use crate::calls::sent::{SentCalls, NOT_REPORTED as KIND_NOT_REPORTED};
+use crate::calls::store::{COPY, LATE};
 use crate::refusal::Refusal;
 use std::slice;
 
@@ -43,11 +44,14 @@ unsafe extern "C" fn register(
     }
     let places = slice::from_raw_parts_mut(places, places_len);
     let cells = slice::from_raw_parts_mut(cells, cells_len);
-    admit(places, cells, ssrc, number, NOT_REPORTED, |cell| {
-        if *cell & KNOWN_MASK == NOT_REGISTERED {
-            *cell = NOT_REPORTED;
+    let admitted = admit(places, cells, ssrc, number, NOT_REPORTED, |cell| {
+        if *cell & KNOWN_MASK != NOT_REGISTERED {
+            return COPY;
         }
-    })
+        *cell = NOT_REPORTED;
+        LATE
+    });
+    admitted.err().unwrap_or(0)
 }
 
 #[inline(never)]

@@ -1,7 +1,7 @@
 //! Store calls.
 
 use super::metric::CE;
-use crate::calls::store::StoreCalls;
+use crate::calls::store::{CcfbArrival, StoreCalls, AHEAD, COPY, FIRST, LATE};
 use crate::refusal::Refusal;
 use std::slice;
 
@@ -92,6 +92,7 @@ unsafe extern "C" fn arrive(
     mark: u8,
     time_known: bool,
     time: u32,
+    arrival: *mut CcfbArrival,
 ) -> u8 {
     if !is_shaped(places_len, cells_len) {
         return Refusal::BadStore.number();
@@ -101,18 +102,39 @@ unsafe extern "C" fn arrive(
     }
     let places = slice::from_raw_parts_mut(places, places_len);
     let cells = slice::from_raw_parts_mut(cells, cells_len);
-    let filled = filled_word(mark, time_known, time);
+    match record(places, cells, ssrc, number, mark, filled_word(mark, time_known, time)) {
+        Ok(kind) => {
+            *arrival = kind;
+            0
+        }
+        Err(refused) => refused,
+    }
+}
+
+/// Records an arrival, in a store of the right shape; `filled` is the word of its mark and time.
+#[inline(always)]
+pub fn record(
+    places: &mut [u64],
+    cells: &mut [u64],
+    ssrc: u32,
+    number: u16,
+    mark: u8,
+    filled: u64,
+) -> Result<CcfbArrival, u8> {
     admit(places, cells, ssrc, number, filled, |cell| {
         if *cell & FILLED == 0 {
             *cell = filled;
-        } else if mark == CE {
+            return LATE;
+        }
+        if mark == CE {
             *cell |= u64::from(CE);
         }
+        COPY
     })
 }
 
-/// Admits a number of a stream: `first` becomes the word of a number that the window did not have,
-/// `again` changes that of one that it had.
+/// Admits a number of a stream: `first` becomes the word of one that is the first or ahead, and
+/// `again` changes that of one in the window and gives its kind.
 #[inline(always)]
 pub fn admit(
     places: &mut [u64],
@@ -120,39 +142,46 @@ pub fn admit(
     ssrc: u32,
     number: u16,
     first: u64,
-    again: impl FnOnce(&mut u64),
-) -> u8 {
+    again: impl FnOnce(&mut u64) -> u16,
+) -> Result<CcfbArrival, u8> {
     let Some(k) = find(places, ssrc) else {
         return start(places, cells, ssrc, number, first);
     };
     let (place, ring) = (&mut places[k], ring_of(cells, k));
     let highest = *place as u16;
-    let ahead = number.wrapping_sub(highest);
+    // FARTHEST_AHEAD or more, if the number is not ahead.
+    let passed_over = number.wrapping_sub(highest).wrapping_sub(1);
     let behind = usize::from(highest.wrapping_sub(number));
     let cell = usize::from(number) % CELLS_OF_A_PLACE;
-    if ahead.wrapping_sub(1) < FARTHEST_AHEAD {
-        if ahead > 1 {
-            empty_after(ring, highest, ahead - 1);
+    if passed_over < FARTHEST_AHEAD {
+        if passed_over > 0 {
+            empty_after(ring, highest, passed_over);
         }
         *place = place_word(ssrc, number);
         ring[cell] = first;
+        Ok(CcfbArrival { kind: AHEAD, passed_over })
     } else if behind >= CELLS_OF_A_PLACE {
-        return Refusal::TooOld.number();
+        Err(Refusal::TooOld.number())
     } else {
-        again(&mut ring[cell]);
+        Ok(CcfbArrival { kind: again(&mut ring[cell]), passed_over: 0 })
     }
-    0
 }
 
-fn start(places: &mut [u64], cells: &mut [u64], ssrc: u32, number: u16, first: u64) -> u8 {
+fn start(
+    places: &mut [u64],
+    cells: &mut [u64],
+    ssrc: u32,
+    number: u16,
+    first: u64,
+) -> Result<CcfbArrival, u8> {
     let Some(k) = places.iter().position(|word| !is_held(*word)) else {
-        return Refusal::NoFreePlace.number();
+        return Err(Refusal::NoFreePlace.number());
     };
     let ring = ring_of(cells, k);
     ring.fill(0);
     ring[usize::from(number) % CELLS_OF_A_PLACE] = first;
     places[k] = place_word(ssrc, number);
-    0
+    Ok(CcfbArrival { kind: FIRST, passed_over: 0 })
 }
 
 #[inline(never)]

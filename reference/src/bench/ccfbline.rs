@@ -30,7 +30,9 @@ pub fn rows() -> Vec<Row> {
     let work = |program: &Path, input: &mut File| {
         let input = Stdio::from(input.try_clone().expect("the file"));
         let output = Command::new(program).stdin(input).output().expect("the program");
-        assert!(output.stdout.starts_with(b"8bcd"), "{}", program.display());
+        let lines = output.stdout;
+        let good = lines.starts_with(b"8bcd") && lines.ends_with(b"\ngap 0\n");
+        assert!(good, "{}", program.display());
     };
     let programs = (ours.as_deref(), baseline.as_path());
     let open = |_| File::open(&path).expect("the file");

@@ -2,7 +2,7 @@
 
 use super::{row, Row};
 use crate::baseline::store::BASELINE;
-use crate::calls::store::{StoreCalls, Words};
+use crate::calls::store::{CcfbArrival, StoreCalls, Words};
 use crate::rng::{Rng, USUAL_SEED};
 use crate::store::{CELLS_OF_A_PLACE, MOST_PLACES};
 
@@ -67,11 +67,15 @@ fn take(calls: StoreCalls, words: &mut Words, arrivals: &[Arrival]) {
     let (places, places_len) = (places.as_mut_ptr(), places.len());
     let (cells, cells_len) = (cells.as_mut_ptr(), cells.len());
     let mut time = 0u32;
+    let mut arrival = CcfbArrival::default();
     for &Arrival { ssrc, number, mark } in arrivals {
         time = time.wrapping_add(65);
-        // SAFETY: each pointer is passed with the length of its slice.
+        let out = &mut arrival;
+        // SAFETY: each pointer is passed with the length of its slice; the last is to a local.
         let refused = unsafe {
-            (calls.arrive)(places, places_len, cells, cells_len, ssrc, number, mark, true, time)
+            (calls.arrive)(
+                places, places_len, cells, cells_len, ssrc, number, mark, true, time, out,
+            )
         };
         assert_eq!(refused, 0);
     }

@@ -3,13 +3,41 @@
 use super::answer;
 use crate::ffi::c_functions;
 use crate::metric::Arrived;
-use crate::store::CELLS_OF_A_PLACE;
+use crate::store::{ArrivalKind, CELLS_OF_A_PLACE};
 
 c_functions! { StoreCalls, "store":
-    arrive = ccfb_arrive(*mut u64, usize, *mut u64, usize, u32, u16, u8, bool, u32);
+    arrive = ccfb_arrive(
+        *mut u64, usize, *mut u64, usize, u32, u16, u8, bool, u32, *mut CcfbArrival
+    );
     forget = ccfb_forget(*mut u64, usize, *const u64, usize, u32);
     place = ccfb_place(*const u64, usize, *const u64, usize, usize, *mut u32, *mut u16);
     oldest = ccfb_oldest(*const u64, usize, *const u64, usize, usize, *mut u16);
+}
+
+/// The kinds of accepted arrival, as the call numbers them.
+pub const FIRST: u16 = 0;
+pub const AHEAD: u16 = 1;
+pub const LATE: u16 = 2;
+pub const COPY: u16 = 3;
+
+/// The struct `ccfb_arrival`.
+#[derive(Clone, Copy, Debug, Default, PartialEq, Eq)]
+#[repr(C)]
+pub struct CcfbArrival {
+    pub kind: u16,
+    pub passed_over: u16,
+}
+
+impl From<ArrivalKind> for CcfbArrival {
+    fn from(kind: ArrivalKind) -> CcfbArrival {
+        let (kind, passed_over) = match kind {
+            ArrivalKind::First => (FIRST, 0),
+            ArrivalKind::Ahead { passed_over } => (AHEAD, passed_over),
+            ArrivalKind::Late => (LATE, 0),
+            ArrivalKind::Copy => (COPY, 0),
+        };
+        CcfbArrival { kind, passed_over }
+    }
 }
 
 /// The two arrays of a store.
@@ -33,10 +61,12 @@ impl StoreCalls {
         number: u16,
         arrived: Arrived,
         idle: u32,
-    ) -> Result<(), u8> {
+    ) -> Result<CcfbArrival, u8> {
         let Words { places, cells } = words;
         let Arrived { mark, time } = arrived;
-        // SAFETY: each pointer is passed with the length of its slice.
+        let before = CcfbArrival { kind: 0xBEEF, passed_over: 0xDEAD };
+        let mut arrival = before;
+        // SAFETY: each pointer is passed with the length of its slice; the last is to a local.
         let refused = unsafe {
             (self.arrive)(
                 places.as_mut_ptr(),
@@ -48,9 +78,10 @@ impl StoreCalls {
                 mark,
                 time.is_some(),
                 time.unwrap_or(idle),
+                &mut arrival,
             )
         };
-        answer(refused, (), ())
+        answer(refused, arrival, before)
     }
 
     pub fn forget(&self, words: &mut Words, ssrc: u32) -> Result<(), u8> {

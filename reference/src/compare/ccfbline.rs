@@ -20,10 +20,19 @@ const CASE_P: [u8; 29] = *b"ARL\0\x01\
 /// How many sequence numbers there are.
 const NUMBERS: u64 = 65_536;
 
+/// Steps from a number to the next one: where the gap gets another digit, and at both ends of what
+/// is ahead, too old and in the window.
+const STEPS: [u16; 18] = [
+    0, 1, 2, 10, 11, 100, 101, 1_000, 1_001, 2_048, 10_000, 10_001, 32_766, 32_767, 32_768, 63_488,
+    63_489, 65_535,
+];
+
 pub fn run(program: &Path, tally: &mut Tally) -> Result<(), Mismatch> {
-    let case_p = "8bcd0006000000f100000a01fffd00040000c2000000e00000050000\n".to_string();
+    let packet = "8bcd0006000000f100000a01fffd00040000c2000000e00000050000";
+    let case_p = format!("{packet}\ngap 1\n");
     tally.same(&"case P", program::printed(program, &CASE_P), Ok(case_p))?;
     near_case_p(program, tally)?;
+    two_steps(program, tally)?;
     for _ in 0..rounds(3_000) {
         tally.case += 1;
         let mut rng = Rng::of_case(tally.seed, tally.case);
@@ -36,6 +45,7 @@ pub fn run(program: &Path, tally: &mut Tally) -> Result<(), Mismatch> {
         }
         compare(program, tally, &file)?;
     }
+    one_jump(program, tally)?;
     long_files(program, tally)
 }
 
@@ -59,6 +69,29 @@ fn near_case_p(program: &Path, tally: &mut Tally) -> Result<(), Mismatch> {
     Ok(())
 }
 
+/// Three arrivals of one stream, with every pair of these steps between them.
+fn two_steps(program: &Path, tally: &mut Tally) -> Result<(), Mismatch> {
+    for first in STEPS {
+        for second in STEPS {
+            let mut file = HEADER.to_vec();
+            let mut number = 60_000u16;
+            for step in [0, first, second] {
+                number = number.wrapping_add(step);
+                put_record(&mut file, 7, number, 0, None);
+            }
+            compare(program, tally, &file)?;
+        }
+    }
+    Ok(())
+}
+
+fn put_record(file: &mut Vec<u8>, ssrc: u32, number: u16, mark: u8, time: Option<u32>) {
+    file.extend(ssrc.to_be_bytes());
+    file.extend(number.to_be_bytes());
+    file.extend([mark, u8::from(time.is_some())]);
+    file.extend(time.unwrap_or(0).to_be_bytes());
+}
+
 /// A file without faults: one to nine streams that wrap, jump, repeat and come late.
 fn random_file(rng: &mut Rng, records: u64) -> Vec<u8> {
     let mut newest: Vec<(u32, u16)> =
@@ -66,6 +99,8 @@ fn random_file(rng: &mut Rng, records: u64) -> Vec<u8> {
     if rng.one_in(2) {
         newest[0].1 = 65_530;
     }
+    // Another one for each file, so that gaps have all sizes.
+    let longest = if rng.one_in(2) { NUMBERS } else { 1 << rng.below(16) };
     let no_time = rng.one_in(8);
     let mut time = rng.u32();
     let mut file = HEADER.to_vec();
@@ -73,27 +108,27 @@ fn random_file(rng: &mut Rng, records: u64) -> Vec<u8> {
         let stream = rng.below(newest.len() as u64) as usize;
         let (ssrc, number) = &mut newest[stream];
         time = time.wrapping_add(rng.below(100_000) as u32);
-        let step = match rng.below(16) {
-            0 => 2_048,
-            1 => 32_767,
-            2 => 32_768,
-            3 => NUMBERS - rng.below(2_100),
-            4 => NUMBERS - 2_048,
-            5..=7 => NUMBERS - rng.below(4),
-            8 => rng.below(NUMBERS),
-            _ => 1,
-        };
+        let step = random_step(rng, longest);
         let next = number.wrapping_add(step as u16);
         if step < 32_768 {
             *number = next;
         }
         let known = !no_time && !rng.one_in(6);
-        file.extend(ssrc.to_be_bytes());
-        file.extend(next.to_be_bytes());
-        file.extend([rng.below(4) as u8, u8::from(known)]);
-        file.extend(if known { time } else { 0 }.to_be_bytes());
+        put_record(&mut file, *ssrc, next, rng.below(4) as u8, known.then_some(time));
     }
     file
+}
+
+/// A step to the next number, a jump of at most `longest`, or a step back.
+fn random_step(rng: &mut Rng, longest: u64) -> u64 {
+    match rng.below(16) {
+        0 | 1 => 1 + rng.below(longest),
+        2 if longest == NUMBERS => rng.pick(&[2_048, 32_767, 32_768]),
+        3 => NUMBERS - rng.below(2_100),
+        4 => NUMBERS - 2_048,
+        5..=7 => NUMBERS - rng.below(4),
+        _ => 1,
+    }
 }
 
 fn put_fault(rng: &mut Rng, file: &mut Vec<u8>) {
@@ -112,6 +147,20 @@ fn put_fault(rng: &mut Rng, file: &mut Vec<u8>) {
         6 => file[record + TIME_AT + rng.below(4) as usize] ^= 1 << rng.below(8),
         _ => file[record + MARK_AT + rng.below(2) as usize] ^= 1 << rng.below(8),
     }
+}
+
+/// Files longer than any buffer, in order but for one jump, which is the gap wherever it is.
+fn one_jump(program: &Path, tally: &mut Tally) -> Result<(), Mismatch> {
+    const RECORDS: u16 = 20_000;
+    for at in [1, 4_096, 5_461, RECORDS / 2, RECORDS - 1] {
+        let mut file = HEADER.to_vec();
+        for i in 0..RECORDS {
+            let jumped = if i < at { 0 } else { 1_234 };
+            put_record(&mut file, 7, 60_000u16.wrapping_add(i + jumped), 0, None);
+        }
+        compare(program, tally, &file)?;
+    }
+    Ok(())
 }
 
 /// Files longer than any buffer, up to a million records, whole and with a fault at the end.

@@ -1,7 +1,7 @@
 //! A store of ours and one of the reference, given the same calls.
 
 use super::{numbered, Mismatch, Tally};
-use crate::calls::store::{StoreCalls, Words};
+use crate::calls::store::{CcfbArrival, StoreCalls, Words};
 use crate::lent;
 use crate::metric::Arrived;
 use crate::store::{Store, Stream, CELLS_OF_A_PLACE};
@@ -39,19 +39,29 @@ impl<'a> Pair<'a> {
         Pair { calls, words, model }
     }
 
-    /// Compares the answer of a call, then the stream and H of each place and of one past them, and
-    /// the oldest number of the call's stream. Returns whether the call was accepted.
-    pub fn call(&mut self, tally: &mut Tally, call: Call) -> Result<bool, Mismatch> {
-        let (ours, reference) = match call {
-            Call::Arrive { ssrc, number, arrived, idle } => (
-                self.calls.arrive(&mut self.words, ssrc, number, arrived, idle),
-                self.model.arrive(ssrc, number, arrived).map(|_| ()),
-            ),
-            Call::Forget { ssrc } => {
-                (self.calls.forget(&mut self.words, ssrc), self.model.forget(ssrc))
+    /// Compares the answer of a call: for an arrival also its kind and how many numbers it passed
+    /// over. Returns whether the call was accepted.
+    fn answer(&mut self, tally: &mut Tally, call: Call) -> Result<bool, Mismatch> {
+        match call {
+            Call::Arrive { ssrc, number, arrived, idle } => {
+                let ours = self.calls.arrive(&mut self.words, ssrc, number, arrived, idle);
+                let reference = numbered(self.model.arrive(ssrc, number, arrived));
+                tally.same(&call, ours, reference.map(CcfbArrival::from))?;
+                Ok(reference.is_ok())
             }
-        };
-        tally.same(&call, ours, numbered(reference))?;
+            Call::Forget { ssrc } => {
+                let ours = self.calls.forget(&mut self.words, ssrc);
+                let reference = numbered(self.model.forget(ssrc));
+                tally.same(&call, ours, reference)?;
+                Ok(reference.is_ok())
+            }
+        }
+    }
+
+    /// As `answer`, then compares the stream and H of each place and of one past them, and the
+    /// oldest number of the call's stream.
+    pub fn call(&mut self, tally: &mut Tally, call: Call) -> Result<bool, Mismatch> {
+        let accepted = self.answer(tally, call)?;
         for k in 0..=self.words.places.len() {
             self.place(tally, &call, k)?;
         }
@@ -60,7 +70,7 @@ impl<'a> Pair<'a> {
         if let Some(k) = self.model.places().iter().position(of_stream) {
             self.oldest(tally, &call, k)?;
         }
-        Ok(reference.is_ok())
+        Ok(accepted)
     }
 
     fn place(&self, tally: &mut Tally, call: &Call, k: usize) -> Result<(), Mismatch> {

@@ -1,18 +1,24 @@
-//! Store: the cases at the edges, every mark after every mark, random runs from a fresh store, any
-//! content, wrong shapes.
+//! Store: the cases at the edges, every distance from H, every mark after every mark, random runs
+//! from a fresh store, any content, wrong shapes.
 
 use super::lent_words::random_words;
 use super::pair::{Call, Pair};
 use super::{Mismatch, Tally};
 use crate::calls::store::{StoreCalls, Words};
+use crate::lent::place_word;
 use crate::metric::Arrived;
 use crate::refusal::Refusal;
 use crate::rng::{rounds, Rng};
 use crate::store::{wrapped, CELLS_OF_A_PLACE, MOST_PLACES};
 
+/// A cell reads as its word modulo this says.
+const WORD_KINDS: u64 = 16;
+
 pub fn run(calls: &StoreCalls, tally: &mut Tally) -> Result<(), Mismatch> {
     edges(calls, tally)?;
+    every_distance(calls, tally)?;
     marks_of_copies(calls, tally)?;
+    cell_words(calls, tally)?;
     wrong_shapes(calls, tally)?;
     for places in [1, 2, 4, MOST_PLACES] {
         for _ in 0..rounds(20) {
@@ -31,11 +37,16 @@ fn arrival(ssrc: u32, number: u16, mark: u8, time: Option<u32>) -> Call {
     Call::Arrive { ssrc, number, arrived: Arrived { mark, time }, idle: 0 }
 }
 
-/// Numbers around H = 0, and copies, one store for each case.
+/// Numbers around H = 0, twice each, and again once the stream was forgotten; and copies. One store
+/// for each case.
 fn edges(calls: &StoreCalls, tally: &mut Tally) -> Result<(), Mismatch> {
-    let around = [65_535, 63_489, 63_488, 32_767, 32_768, 0, 1, 2_047, 2_048, 2_049];
-    let mut runs: Vec<Vec<Call>> =
-        around.map(|number| vec![arrival(7, 0, 0, None), arrival(7, number, 1, None)]).to_vec();
+    let around = [65_535, 63_489, 63_488, 32_767, 32_768, 0, 1, 2, 2_047, 2_048, 2_049];
+    let mut runs: Vec<Vec<Call>> = around
+        .map(|number| {
+            let (first, other) = (arrival(7, 0, 0, None), arrival(7, number, 1, None));
+            vec![first, other, other, Call::Forget { ssrc: 7 }, other, first]
+        })
+        .to_vec();
     let copies = |copies: &[(u8, Option<u32>)]| {
         copies.iter().map(|(mark, time)| arrival(7, 9, *mark, *time)).collect()
     };
@@ -45,6 +56,39 @@ fn edges(calls: &StoreCalls, tally: &mut Tally) -> Result<(), Mismatch> {
         let mut pair = Pair::fresh(calls, 1);
         for call in run {
             pair.call_closely(tally, call)?;
+        }
+    }
+    Ok(())
+}
+
+/// A number at every distance from H, in a store with one arrival.
+fn every_distance(calls: &StoreCalls, tally: &mut Tally) -> Result<(), Mismatch> {
+    let mut rng = Rng::of_case(tally.seed, 0);
+    for distance in 0..=u16::MAX {
+        let highest = rng.u16();
+        let mut pair = Pair::fresh(calls, 1);
+        pair.call(tally, arrival(7, highest, 0, None))?;
+        pair.call(tally, arrival(7, highest.wrapping_add(distance), 0, None))?;
+    }
+    Ok(())
+}
+
+/// Every kind of word in the cell of a number that arrives, twice, in a window that is empty
+/// otherwise; then H arrives, also where its cell is empty.
+fn cell_words(calls: &StoreCalls, tally: &mut Tally) -> Result<(), Mismatch> {
+    let mut rng = Rng::of_case(tally.seed, 0);
+    for kind in 0..WORD_KINDS {
+        for behind in [0, 1, 1_000, 2_046, 2_047] {
+            let highest = rng.u16();
+            let number = highest.wrapping_sub(behind);
+            let mut words = Words::fresh(1);
+            words.places[0] = place_word(7, highest);
+            let word = rng.u64() / WORD_KINDS * WORD_KINDS + kind;
+            words.cells[usize::from(number) % CELLS_OF_A_PLACE] = word;
+            let mut pair = Pair::lent(calls, words);
+            for number in [number, number, highest] {
+                pair.call_closely(tally, arrival(7, number, 1, Some(5)))?;
+            }
         }
     }
     Ok(())

@@ -12,13 +12,13 @@ use Rattle.recording.proofs.take_records.Statement.{statement}
 use Rattle.recording.proofs.take_records.Tie as tie
 
 abbrev Inv-loop : tie.InvT-loop
-Inv-loop places₀ cells₀ s from rts at₀ last₀ places cells at last =
+Inv-loop places₀ cells₀ s from rts gap at₀ last₀ largest₀ places cells at last largest =
     (at ≤ length s) × (length places ≡ length places₀) × (length cells ≡ length cells₀)
-    × (taken afterRecord (length (drop at s) / recordOctets) (recorded places cells last) (drop at s)
-    ≡ taken afterRecord (length (drop from s) / recordOctets) (recorded places₀ cells₀ rts) (drop from s))
+    × (taken afterRecord (length (drop at s) / recordOctets) (recorded places cells last largest) (drop at s)
+    ≡ taken afterRecord (length (drop from s) / recordOctets) (recorded places₀ cells₀ rts gap) (drop from s))
 
 abbrev μ-loop : tie.MeasureT-loop
-μ-loop places₀ cells₀ s from rts at₀ last₀ places cells at last = length s - at
+μ-loop places₀ cells₀ s from rts gap at₀ last₀ largest₀ places cells at last largest = length s - at
 
 loop-holds : tie.Need-loop-holds Inv-loop μ-loop
 loop-holds c =
@@ -39,7 +39,7 @@ loop-less c = omega arith
 
 loop-again : tie.Need-loop-again Inv-loop μ-loop
 loop-again c =
-    let after-arrive = c .before .before .before .before in
+    let after-arrive = c .before .before .before .before .before in
     let after-last-known = after-arrive .before .before .before in
     let after-here = after-last-known .before .before in
     let after-read-record = after-here .before .before in
@@ -50,8 +50,8 @@ loop-again c =
       omega arith,
       a .kept .0 ∙ l .inv .1,
       a .kept .1 .0 ∙ l .inv .2,
-      turn-record (start .args .s .now) (l .at) (l .places) (l .cells) (l .last) (omega arith) _ (after-read-record .read-record .ensures)
-          _ (a .result) _ _ _ (after-here .here .given .1) (a .ensures) (after-last-known .last-known .ensures)
+      turn-record (start .args .s .now) (l .at) (l .places) (l .cells) (l .last) (l .largest) (omega arith) _ (after-read-record .read-record .ensures)
+          _ (a .result) _ _ _ _ (after-here .here .given .1) (a .ensures) (after-last-known .last-known .ensures) (c .gap-after .ensures)
           ∙ l .inv .3,
     )
 
@@ -73,7 +73,7 @@ returns c =
     let at-loop = after-read-record .before .before .before in
     let args = at-loop .before .before .before .before .args in
     let l = at-loop .loop in
-    turn-refused (args .s .now) (l .at) (l .places) (l .cells) (l .last) (omega arith) _ (after-read-record .read-record .ensures)
+    turn-refused (args .s .now) (l .at) (l .places) (l .cells) (l .last) (l .largest) (omega arith) _ (after-read-record .read-record .ensures)
     _ _ (c .before .here2 .given .1) (l .inv .3)
 
 same-length-3 : tie.Need-same-length-3 Inv-loop μ-loop
@@ -87,7 +87,7 @@ returns-2 c =
     let after-slice-known = c .before .before .before .before in
     let args = after-slice-known .before .args in
     let l = c .before .loop in
-    record { within = l .inv .0; is = sym (all-taken (args .s .now) (l .at) (recorded (l .places) (l .cells) (l .last)) (omega arith)) ∙ l .inv .3 }
+    record { within = l .inv .0; is = sym (all-taken (args .s .now) (l .at) (recorded (l .places) (l .cells) (l .last) (l .largest)) (omega arith)) ∙ l .inv .3 }
 
 pub take-records-spec : {M : Type 1} → statement M
 take-records-spec =
@@ -99,7 +99,7 @@ take-records-spec =
     sub-loop
     sub-read-record
     (λ c. search needs) (λ c. search needs) (λ c κs. search needs) (λ c. search needs) (λ c κs. search needs)
-    (λ c κs. search needs)
+    (λ c κs. search needs) (λ c κs. search needs)
     add-at
     loop-less
     loop-again

@@ -14,10 +14,10 @@ returns-2 : tie.Need-returns-2
 returns-2 c =
     let after-take-records = c .before .before .before .before in
     let enum-told2 = after-take-records .before .before .before .enum-told2 in
-    taken-as _ _ _ _ _ _ (in-records _ _ _ _ _ (enum-told2 .given .1)) (after-take-records .take-records .ensures)
+    taken-as _ _ _ _ _ _ (in-records _ _ _ _ _ _ (enum-told2 .given .1)) (after-take-records .take-records .ensures)
 
 returns-3 : tie.Need-returns-3
-returns-3 c = stopped _ _ _ _ _ _ (in-fault _ _ _ _ _ _ (c .before .phase .given .1))
+returns-3 c = stopped _ _ _ _ _ _ _ (in-fault _ _ _ _ _ _ _ (c .before .phase .given .1))
 
 pub take-spec : {M : Type 1} → statement M
 take-spec =
