@@ -122,13 +122,13 @@ void ccfb_decode_metric(uint16_t metric, uint8_t *kind, uint8_t *mark, uint16_t 
 #define CCFB_LATE 2  /* behind the highest number, and not received before */
 #define CCFB_COPY 3  /* received before */
 
-/* An arrival passes over at most so many numbers. */
+/* The most numbers that one arrival can pass over. */
 #define CCFB_MOST_PASSED_OVER 32766
 
 /* What an accepted arrival was. */
 struct ccfb_arrival {
     uint16_t kind;        /* CCFB_FIRST to CCFB_COPY */
-    uint16_t passed_over; /* CCFB_AHEAD: how many are between the last highest and it; else 0 */
+    uint16_t passed_over; /* CCFB_AHEAD: how many are between the old highest and it; else 0 */
 };
 
 /*

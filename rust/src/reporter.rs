@@ -8,7 +8,7 @@ use crate::{ArrivalKind, Request, Requests, Stream};
 /// The first report on a stream starts at its [first arrival](Reporter::arrived); each later one
 /// has the numbers since the last, and as many of that one again as the overlap says. **No report
 /// has numbers from before the first arrival, as long as the reporter is told what each arrival
-/// was.** Nobody knows whether such numbers were sent, and the sender would take them for lost. A
+/// was**, with at most 16 first ones [between two reports](Reporter::arrived). Nobody knows whether such numbers were sent, and the sender would take them for lost. A
 /// stream of which nothing is new gets its overlap, or an empty block without one, so that every
 /// report names each stream that the store holds: the sender then sees that nothing arrived.
 ///
@@ -137,8 +137,9 @@ impl Reporter {
 
     /// Remembers that the numbers of these requests were reported. Call it when the packets are
     /// sent, not before: if writing or sending fails, the next report then has the numbers too.
-    /// Packets may arrive in between; but forget no stream in between, unless the reporter is told
-    /// of the [arrivals](Reporter::arrived).
+    /// Call it before the next [`requests`](Reporter::requests). Packets may arrive in between; but
+    /// forget no stream in between, unless the reporter is told of the
+    /// [arrivals](Reporter::arrived).
     pub fn reported(&mut self, requests: &[Request]) {
         for request in requests {
             self.reported.put(*request);

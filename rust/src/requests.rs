@@ -8,8 +8,8 @@ use core::ops::Deref;
 ///
 /// They must lie within the stream's window: the first is at most 2,047 behind H, and the last is
 /// not ahead of it. A count of 0 asks for an empty block and needs begin = H. The requests that
-/// [`Stream`](crate::Stream) makes are like that. **Never ask for numbers from before the oldest
-/// that arrived**: they would be reported as missing.
+/// [`Stream`](crate::Stream) makes are like that. **Never ask for numbers from before the stream's
+/// [first arrival](crate::ArrivalKind::First)**: they would be reported as missing.
 #[derive(Clone, Copy, Debug, PartialEq, Eq, Hash)]
 #[repr(C)]
 pub struct Request {

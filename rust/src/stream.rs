@@ -10,9 +10,11 @@ const AHEAD: u16 = 0x8000;
 
 /// A stream that a place holds.
 ///
-/// It makes the requests for a report. **Never report numbers from before the oldest that
-/// arrived**: nobody knows whether they were sent, and the sender would take them for lost. The
-/// requests made here keep to that. A [`Reporter`](crate::Reporter) makes them for all streams.
+/// It makes the requests for a report. **Never report numbers from before the first arrival**:
+/// nobody knows whether they were sent, and the sender would take them for lost. A `Stream` does
+/// not know its first arrival, and its requests start at the oldest number that arrived, or later.
+/// A [`Reporter`](crate::Reporter) that is told of the arrivals knows it, and makes the requests
+/// for all streams.
 ///
 /// ```
 /// use ccfb::{Request, Stream};

@@ -40,8 +40,8 @@ pub enum Decision {
     Refused(Refusal),
 }
 
-// The place that holds the stream. The first place is looked at before the search on purpose: many stores have one stream
-// alone, and fewer values have to be kept where the place need not come out of a loop.
+// The place that holds the stream. The first place is looked at before the search on purpose: many stores have one
+// stream alone, and fewer values have to be kept where the place need not come out of a loop.
 fn place_of(places: &[u64], ssrc: u32) -> Found
     requires some { ⌜ 0 < length (now places) ⌝ }
     ensures value { λ r. ⌜ r ≡ findOf (now (places .entry)) ssrc ⌝ }

@@ -1,4 +1,5 @@
-// Takes an arrival file on standard input, and prints the feedback on its streams and the gap, or the file's first fault.
+// Takes an arrival file on standard input, and prints the feedback on its streams and the gap, or the file's first
+// fault.
 ghost use Prim.Native.Nat.{_≤_};
 ghost use lib.ListN.{length};
 ghost use Rattle.line.specs.Line.{textRoom};

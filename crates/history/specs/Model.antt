@@ -1,6 +1,6 @@
--- Rules: "Arrivals and the window", "Kinds of arrival", "What a store means". The meaning as a machine of its own, the
--- one of `streams`: each place is free, or holds a stream with its SSRC, its highest full number and
--- its accepted arrivals.
+-- Rules: "Arrivals and the window", "Kinds of arrival", "What a store means". The meaning as a
+-- machine of its own, the one of `streams`: each place is free, or holds a stream with its SSRC, its
+-- highest full number and its accepted arrivals.
 use Prim.Native.Nat.{ℕ, _+_, _-_, _%_}
 use mathlib.Core.Bool.{cond}
 use mathlib.Core.List.{List}

@@ -1,6 +1,6 @@
--- Rules: "Refusals", "Order of refusals". When each call on the store gives which answer, one case
--- for each rule, for a store of any lent content. Of several refusals that apply the first is
--- given, in the order that stands at each call.
+-- Rules: "Refusals", "Order of refusals", "Kinds of arrival". When each call on the store gives
+-- which answer, one case for each rule, for a store of any lent content. Of several refusals that
+-- apply the first is given, in the order that stands at each call.
 use Prim.Native.Nat.{ℕ, _-_, _≤_, _<_}
 use mathlib.Core.Path.{_≡_}
 use mathlib.Core.List.{List}

@@ -190,10 +190,10 @@ all-before : (qs : List Record) (r : Record) (more : List Record) → All InRang
 all-before [] r more h = (tt, h .0)
 all-before (q ∷ qs) r more h = let t = all-before qs r more (h .1) in ((h .0, t .0), t .1)
 
--- Each record of a file without fault, in the store that those before it have made, is accepted or passed over with 2 or 3.
-pub passed-over : (s : List ℕ) (qs : List Record) (r : Record) (more : List Record) → Octets s → fileOf s ≡ sound (qs ++ r ∷ more)
+-- Each record of a file without fault, in the store that those before it have made, is accepted or skipped with 2 or 3.
+pub taken-or-skipped : (s : List ℕ) (qs : List Record) (r : Record) (more : List Record) → Octets s → fileOf s ≡ sound (qs ++ r ∷ more)
     → let x : Recorded = foldl afterRecord fresh qs in Answered (arrived (x .places) (x .cells) (r .ssrc) (r .number) (r .mark) (r .time) .answer)
-passed-over s qs r more o e =
+taken-or-skipped s qs r more o e =
     let range = all-before qs r more (file-range s (qs ++ r ∷ more) o e) in
     let x : Recorded = foldl afterRecord fresh qs in
     answered-by (x .places) (x .cells) (r .ssrc) (r .number) (r .mark)

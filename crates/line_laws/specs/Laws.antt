@@ -17,7 +17,7 @@ use Rattle.admission.specs.declared.Arrival.the-variants as arrival
 use Rattle.admission.specs.declared.ArrivalKind.the-variants as kind
 use Rattle.intake.specs.Intake as intake
 
--- a record is taken, or passed over with refusal 2 or 3
+-- a record is taken, or skipped with refusal 2 or 3
 pub data Answered : Arrival → Type 0 where
   accepted : (k : ArrivalKind) → Answered (arrival.Accepted k)
   noFreePlace : Answered (arrival.Refused NoFreePlace)

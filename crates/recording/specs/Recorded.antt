@@ -12,7 +12,7 @@ use Rattle.metric.specs.declared.Time.the-variants.{Unknown, Known}
 use Rattle.admission.specs.declared.Arrival.the-variants as arrival
 use Rattle.admission.specs.declared.ArrivalKind.the-variants as kind
 
--- what the records so far have made: the store's content, the last known time, and the largest gap
+-- what the records so far have made: the store's content, the last known time, and the gap
 pub record Recorded : Type 0 where
   pub places : List ℕ
   pub cells : List ℕ

@@ -1,5 +1,5 @@
-// Takes whole records of an arrival file into a store: each is an arrival. The last known time is kept, and the largest
-// gap.
+// Takes whole records of an arrival file into a store: each is an arrival. The last known time is kept, and the gap: the
+// most numbers that one arrival passed over.
 ghost use mathlib.Core.Path.{_≡_};
 ghost use Prim.Native.Nat.{_/_, _≤_, max};
 ghost use lib.ListN.{length, drop};

@@ -1,7 +1,8 @@
 //! Reads lines of hex from standard input, an RTCP datagram each: a CCFB packet as `ccfbline`
 //! prints it, or several packets of any types. Shows each CCFB packet in readable form, or why it
 //! is refused, and other packets in a line each. The time in a cell is how long before RTS that
-//! number arrived. With `--svg FILE` it also draws the CCFB packets.
+//! number arrived. A line `gap N` or `refused N` of `ccfbline` is put into words. With `--svg FILE`
+//! it also draws the CCFB packets.
 
 mod datagram;
 mod element;

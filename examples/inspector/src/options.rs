@@ -9,6 +9,7 @@ usage: inspector [--svg FILE] <LINES
 
 Reads lines of hex from standard input, an RTCP datagram each: one packet, or several back to back.
 Shows each CCFB packet in readable form, or why it is refused, and other packets in a line each.
+A line `gap N` or `refused N`, as ccfbline prints it, is put into words.
 
   --svg FILE  also draw the CCFB packets into FILE: the delay before RTS over the sequence number,
               with losses and CE marks, one panel for each stream
