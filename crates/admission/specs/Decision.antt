@@ -54,12 +54,12 @@ decided places cells ssrc number mark =
     (decision.Refused BadStore)
 
 -- the answer to an arrival of which this was decided
-abbrev pub answerOf : Decision → Arrival
-answerOf (decision.First p) = arrival.Accepted kind.First
-answerOf (decision.Ahead p f) = arrival.Accepted (kind.Ahead (f - 1))
-answerOf (decision.Late p) = arrival.Accepted kind.Late
-answerOf (decision.Copy p) = arrival.Accepted kind.Copy
-answerOf (decision.Refused e) = arrival.Refused e
+abbrev pub arrivalAnswer : Decision → Arrival
+arrivalAnswer (decision.First p) = arrival.Accepted kind.First
+arrivalAnswer (decision.Ahead p f) = arrival.Accepted (kind.Ahead (f - 1))
+arrivalAnswer (decision.Late p) = arrival.Accepted kind.Late
+arrivalAnswer (decision.Copy p) = arrival.Accepted kind.Copy
+arrivalAnswer (decision.Refused e) = arrival.Refused e
 
 -- what is decided can be carried out: the place is there, one that is ahead is ahead by some numbers, and a copy's mark
 -- is one of the four

@@ -13,7 +13,7 @@ use Rattle.admission.specs.declared.ArrivalKind.the-variants.{First, Ahe
 use Rattle.lists.specs.declared.Found.the-variants.{At, Nothing}
 use Rattle.metric.specs.declared.Cell.the-variants.{Empty, Filled}
 
--- an arrival that leaves the highest number, by what its cell holds
+-- an arrival that is not ahead, by what the cell of its number holds
 abbrev pub kindIn : Cell → ArrivalKind
 kindIn Empty = Late
 kindIn (Filled mark time) = Copy
@@ -22,7 +22,7 @@ kindIn (Filled mark time) = Copy
 abbrev pub laterKind : ℕ → Cell → ArrivalKind
 laterKind f c = cond (isAhead f) (Ahead (f - 1)) (kindIn c)
 
--- an arrival of a stream, by where the stream was found
+-- an arrival of a stream, by where the stream was found; what it says of a number that is too old is never asked
 unfoldable pub kindAt : Found → List ℕ → List ℕ → ℕ → ArrivalKind
 kindAt (At p) places cells number = laterKind (distanceOf number (highestAt places p)) (readCell (cellAt cells p number))
 kindAt Nothing places cells number = First

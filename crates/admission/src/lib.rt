@@ -5,7 +5,7 @@ ghost use Prim.Native.Nat.{_-_, _<_};
 ghost use lib.ListN.{length};
 ghost use Rattle.places.specs.Place.{findOf};
 ghost use Rattle.places.specs.Shape.{Ready};
-ghost use Rattle.admission.specs.Decision.{decidedLater, decided, Fits, answerOf};
+ghost use Rattle.admission.specs.Decision.{decidedLater, decided, Fits, arrivalAnswer};
 use cells::KINDS;
 use cells::LEAST_FILLED;
 use lists::Found;
@@ -107,7 +107,7 @@ pub fn passed_over(f: u16) -> u16
 
 // The answer to an arrival of which this was decided.
 pub fn answer_of(d: Decision) -> Arrival
-    ensures value { λ r. ⌜ r ≡ answerOf d ⌝ }
+    ensures value { λ r. ⌜ r ≡ arrivalAnswer d ⌝ }
 {
     match d {
         Decision::First(_) => Arrival::Accepted(ArrivalKind::First),

@@ -11,11 +11,11 @@ use Rattle.admission.specs.declared.ArrivalKind.the-variants.{First, Ahead, Lat
 use Rattle.admission.specs.declared.Arrival.the-variants as arrival
 
 -- the number of a kind
-abbrev pub kindNumber : ArrivalKind → ℕ
-kindNumber First = 0
-kindNumber (Ahead n) = 1
-kindNumber Late = 2
-kindNumber Copy = 3
+abbrev pub arrivalKindNumber : ArrivalKind → ℕ
+arrivalKindNumber First = 0
+arrivalKindNumber (Ahead n) = 1
+arrivalKindNumber Late = 2
+arrivalKindNumber Copy = 3
 
 -- how many numbers an arrival of a kind passed over
 abbrev pub passedOver : ArrivalKind → ℕ
@@ -41,7 +41,7 @@ arrivalRefusal (arrival.Refused e) = numberOf e
 
 -- the kind's number and then how many numbers were passed over; where refused, as they were
 abbrev pub arrivalBehind : Arrival → List ℕ → List ℕ
-arrivalBehind (arrival.Accepted k) before = set (set before 0 (kindNumber k)) 1 (passedOver k)
+arrivalBehind (arrival.Accepted k) before = set (set before 0 (arrivalKindNumber k)) 1 (passedOver k)
 arrivalBehind (arrival.Refused e) before = before
 
 -- `ccfb_arrive`

@@ -1,5 +1,5 @@
 -- The theorems by history, over every list of arrivals and forgets from a fresh store. Assumes nothing.
-use Prim.Native.Nat.{ℕ, _+_, _-_, _%_, _<_, _≤_, max}
+use Prim.Native.Nat.{ℕ, _+_, _-_, _%_, _^_, _<_, _≤_, max}
 use mathlib.Core.Path.{_≡_, refl, sym, ap, subst, _∙_}
 use mathlib.Core.Bool.{Bool, true, false, cond, _&&_, false≢true}
 use mathlib.Core.List.{List, [], _∷_, _++_, map, map-map}
@@ -36,7 +36,7 @@ use Rattle.history.specs.Reading.{arrivalMeaning, Holds, Reads}
 use Rattle.history.specs.Alone.{SameStream, unheld, held}
 use Rattle.history.proofs.Filled.{as-arrivals}
 use Rattle.history.proofs.Simulation.{place-alike, simulates}
-use Rattle.history.proofs.Heard.{placeBy, Kept, run-kept, vacant-kept}
+use Rattle.history.proofs.Heard.{placeBy, Kept, run-kept, last-forgotten, vacant-kept}
 use Rattle.history.proofs.Numbers.{top-of-numbers, fulls-of-numbers}
 use Rattle.metric.specs.Metric.{congested, TimeInRange}
 use Rattle.window.specs.Number.{sequenceNumbers}
@@ -161,6 +161,13 @@ module _ (st : Store) (new : Fresh st) (cs : List Call) (range : All CallInRange
         by-search : (f : Found) → findOf (storeRun st cs .places) ssrc ≡ f → f ≡ Nothing
         by-search (At p) g = absurd (not-free p g (found-by (At p) g ∙ ap (placeBy ssrc) e))
         by-search Nothing g = refl
+
+    -- rule "Forgetting": once the stream is forgotten its history is empty, also where it was not held and that was refused
+    pub forgotten-history : ssrc < 2 ^ 32 → acceptedOf ssrc (cs ++ (forget ssrc ∷ [])) (storeAnswers st (cs ++ (forget ssrc ∷ []))) ≡ []
+    forgotten-history low =
+        rw (simulates (cs ++ (forget ssrc ∷ [])) (all-append CallInRange cs (forget ssrc) range low) st (vacant (length (st .places)))
+        (fresh-reads arrivalMeaning st new) .0)
+        (last-forgotten cs (vacant (length (st .places))) (λ (y : ℕ). []) (vacant-kept (length (st .places))) ssrc)
 
     pub accepted-in-range : All AcceptedInRange (history ssrc)
     accepted-in-range = rw same-answers (run-range ssrc cs (vacant (length (st .places))) [] range tt)

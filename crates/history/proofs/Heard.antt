@@ -8,10 +8,11 @@ use native.Mathlib.Decide.{ℕ-discrete, decLe}
 use borrow.Author.Tests.{lt-ltb, le-ltb, eq-eqb, ne-eqb}
 use lib.Dec.{eqb}
 use Rattle.lists.specs.declared.Found.{Found}
+use Rattle.lists.proofs.Cases.{never}
 use Rattle.metric.specs.Metric.{congested}
 use Rattle.metric.specs.declared.Time.{Time}
 use Rattle.streams.specs.Full.{fullOf, firstFull}
-use Rattle.streams.specs.Model.{Place, free, stream, ModelAfter, findIn, streamIn, vacant}
+use Rattle.streams.specs.Model.{Place, free, stream, ModelAfter, findIn, foundIn, streamIn, vacant}
 use Rattle.streams.specs.Alone.{Once, Only, nextFull, withOne, Admitted, entered, kept}
 use Rattle.streams.proofs.Alone.{admitted-as, found-only, vacant-once, vacant-stream}
 use Rattle.admission.specs.declared.Arrival.{Arrival}
@@ -119,6 +120,18 @@ module _ (ps : List (Place Entry)) (acc : ℕ → List Accepted) (K : Kept ps ac
           (ap (placeBy x) (sym (own-forgetting x))) (λ y n. rw (ne-eqb x y n))
       found Nothing e = refused-kept (forget x)
 
+  -- once it is forgotten, or was not held to begin with, its history is empty
+  forgotten-empty : (x : ℕ) → heard x (acc x) (forget x) (isDone (toForgetting (modelForgot ps x .answer))) ≡ []
+  forgotten-empty x = found (findIn ps x) refl
+    where
+      none : (l : List Accepted) → free ≡ placeBy x l → l ≡ []
+      none [] h = refl
+      none (a ∷ l) h = never (cc)
+
+      found : (f : Found) → findIn ps x ≡ f → heard x (acc x) (forget x) (isDone (toForgetting (forgotAt f ps .answer))) ≡ []
+      found (At k) e = own-forgetting x
+      found Nothing e = heard-refused x (acc x) (forget x) ∙ none (acc x) (ap (λ (f : Found). foundIn f ps) (sym e) ∙ K .each x)
+
   pub call-kept : (c : Call) → Kept (modelStep ps c) (λ (y : ℕ). heard y (acc y) c (isDone (modelAnswer ps c)))
   call-kept (arrive x number mark time) = arrived-kept x number mark time
   call-kept (forget x) = forgot-kept x
@@ -128,6 +141,13 @@ pub run-kept : (cs : List Call) (ps : List (Place Entry)) (acc : ℕ → List Ac
     → Kept (modelRun ps cs) (λ (y : ℕ). heardAll y (acc y) cs (modelAnswers ps cs))
 run-kept [] ps acc K = K
 run-kept (c ∷ cs) ps acc K = run-kept cs (modelStep ps c) (λ (y : ℕ). heard y (acc y) c (isDone (modelAnswer ps c))) (call-kept ps acc K c)
+
+-- every list of calls that ends with forgetting the stream
+pub last-forgotten : (cs : List Call) (ps : List (Place Entry)) (acc : ℕ → List Accepted) → Kept ps acc → (x : ℕ)
+    → heardAll x (acc x) (cs ++ (forget x ∷ [])) (modelAnswers ps (cs ++ (forget x ∷ []))) ≡ []
+last-forgotten [] ps acc K x = forgotten-empty ps acc K x
+last-forgotten (c ∷ cs) ps acc K x =
+    last-forgotten cs (modelStep ps c) (λ (y : ℕ). heard y (acc y) c (isDone (modelAnswer ps c))) (call-kept ps acc K c) x
 
 pub vacant-kept : (n : ℕ) → Kept (vacant n) (λ (y : ℕ). [])
 vacant-kept n = record { once = vacant-once Entry n; each = vacant-stream Entry n }

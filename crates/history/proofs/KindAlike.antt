@@ -4,32 +4,29 @@ use mathlib.Core.Path.{_≡_, refl, sym, ap, _∙_}
 use mathlib.Core.List.{List}
 use native.Mathlib.Omega.{arith}
 use native.Mathlib.Decide.{decLe, decLt}
-use borrow.Author.Tests.{lt-ltb, le-ltb, eq-eqb, lt-leb, le-leb, ne-eqb}
+use borrow.Author.Tests.{lt-ltb, le-ltb}
 use lib.ListN.{getD, length}
 use Rattle.lists.specs.declared.Found.{Found}
 use Rattle.lists.proofs.First.{first-true}
-use Rattle.metric.specs.declared.Cell.{Cell}
 use Rattle.ring.specs.Ring.{cellsOfAPlace}
-use Rattle.window.specs.Number.{distanceOf, isAhead, farthestAhead, sequenceNumbers}
-use Rattle.places.specs.Place.{placeAt, highestAt, findOf}
+use Rattle.window.specs.Number.{distanceOf, farthestAhead, sequenceNumbers}
+use Rattle.places.specs.Place.{placeAt, findOf}
 use Rattle.places.proofs.Held.{held-highest}
-use Rattle.place_window.specs.Window.{cellAt, cellIndex}
+use Rattle.place_window.specs.Window.{cellAt}
 use Rattle.cells.specs.Cell.{readCell}
-use Rattle.admission.specs.Kind.{kindIn, laterKind, kindAt}
+use Rattle.admission.specs.Kind.{laterKind, kindAt}
 use Rattle.admission.specs.declared.ArrivalKind.{ArrivalKind}
-use Rattle.admission.proofs.KindOf.{is-ahead, is-behind}
+use Rattle.admission.proofs.KindOf.{is-ahead, is-behind, kind-new, kind-later}
 use Rattle.streams.specs.Full.{fullOf}
-use Rattle.streams.specs.Model.{Place, free, stream, ModelAfter, names, highestIn, at, findIn, vacantIn, foundIn, streamIn, laterAt, startedIn, admittedIn, admitted}
+use Rattle.streams.specs.Model.{Place, stream, names, highestIn, at, findIn, foundIn, streamIn, laterAt, admittedIn, admitted}
 use Rattle.streams.specs.Reading.{Store}
 use Rattle.streams.proofs.Numbers.{full-ahead, full-behind, full-low, same-slot}
 use Rattle.streams.proofs.Places.{named-is, later-old, find-same}
-use Rattle.admission.specs.declared.Arrival.{Arrival}
-use Rattle.history.specs.Meaning.{Entry, cellBy}
+use Rattle.history.specs.Meaning.{Entry}
 use Rattle.history.specs.Model.{kindOfFull, modelKind}
 use Rattle.history.specs.Reading.{arrivalMeaning, Holds, Reads}
 use Rattle.lists.specs.declared.Found.the-variants.{At, Nothing}
 use Rattle.admission.specs.declared.Arrival.the-variants as arrival
-use Rattle.admission.specs.declared.ArrivalKind.the-variants as kind
 
 module _ (st : Store) (ps : List (Place Entry)) (R : Reads st ps) (entry : ℕ → Entry) (ssrc number : ℕ) (low : number < sequenceNumbers) where
   -- a number of a stream that place k holds, where it is not too old
@@ -47,8 +44,7 @@ module _ (st : Store) (ps : List (Place Entry)) (R : Reads st ps) (entry : ℕ �
         (sym (same-slot (fullOf top number) number (full-low top number (H .begun) low)))
 
     store-kind : kindAt (At k) (st .places) (st .cells) number ≡ laterKind ahead (readCell (cellAt (st .cells) k number))
-    unfolding kindAt
-    store-kind = rw (held-highest (getD (st .places) k 0) ssrc (top % sequenceNumbers) (H .place))
+    store-kind = rw (kind-later (st .places) (st .cells) k number, held-highest (getD (st .places) k 0) ssrc (top % sequenceNumbers) (H .place))
 
     behind-kind : (0 < ahead → farthestAhead < ahead) → top < fullOf top number + cellsOfAPlace
         → laterKind ahead (readCell (cellAt (st .cells) k number)) ≡ kindOfFull top es (fullOf top number)
@@ -83,8 +79,7 @@ module _ (st : Store) (ps : List (Place Entry)) (R : Reads st ps) (entry : ℕ �
       ≡ admittedIn (arrival.Accepted (modelKind (foundIn f ps) number)) arrival.Refused entry f ps ssrc number
 
   same-found : (f : Found) → findIn ps ssrc ≡ f → Same f
-  unfolding kindAt
-  same-found Nothing e = refl
+  same-found Nothing e = rw (kind-new (st .places) (st .cells) number)
   same-found (At k) e = named (named-is ssrc (at ps k) (first-true (λ (i : ℕ). names ssrc (at ps i)) (length ps) 0 k e))
     where
       named : (top : ℕ) × ((es : List Entry) × (at ps k ≡ stream ssrc top es)) → Same (At k)

@@ -1,32 +1,33 @@
 -- Rule "Kind by history": which kind an accepted arrival is, from a fresh store, after any list of calls. Assumes nothing.
-use Prim.Native.Nat.{ℕ, _+_, _-_, _<_, _≤_}
-use mathlib.Core.Path.{_≡_, refl, sym, ap, subst, _∙_}
+use Prim.Native.Nat.{ℕ, _+_, _-_, _%_, _≤_}
+use mathlib.Core.Path.{_≡_, refl, sym, ap, _∙_}
 use mathlib.Core.Bool.{Bool, true, false, cond}
-use mathlib.Core.List.{List, [], _∷_, List·Memᴰ, List·Memᴰ·not-nil, List·Memᴰ·cases-cons}
-use mathlib.Core.Logic.{⊎-elim}
+use mathlib.Core.List.{List, [], _∷_, _++_, List·Memᴰ, List·Memᴰ·not-nil, cons≢nil}
 use native.Mathlib.Omega.{arith}
 use native.Mathlib.Decide.{decLt}
 use borrow.Author.Tests.{lt-ltb, le-ltb}
 use lib.Dec.{ltb}
 use Rattle.lists.specs.All.{All}
+use Rattle.lists.proofs.All.{all-append, all-member}
 use Rattle.lists.specs.declared.Found.{Found}
 use Rattle.lists.proofs.Cases.{never}
 use Rattle.metric.specs.Metric.{congested}
 use Rattle.metric.specs.declared.Cell.{Cell}
 use Rattle.metric.specs.declared.Time.{Time}
+use Rattle.window.specs.Number.{distanceOf, sequenceNumbers}
 use Rattle.places.specs.Place.{findOf}
 use Rattle.arrivals.specs.Arrivals.{arrived}
 use Rattle.admission.specs.Kind.{kindIn}
 use Rattle.admission.specs.declared.Arrival.{Arrival}
 use Rattle.admission.specs.declared.ArrivalKind.{ArrivalKind}
 use Rattle.streams.specs.Full.{fullOf}
-use Rattle.streams.specs.Model.{Place, ModelAfter, modelAfter, streamIn, admitted, vacant}
+use Rattle.streams.specs.Model.{Place, ModelAfter, modelAfter, streamIn, admitted}
 use Rattle.streams.specs.Alone.{Once, Admitted, entered, kept}
 use Rattle.streams.specs.Reading.{Store, Fresh}
 use Rattle.streams.proofs.Alone.{admitted-as}
-use Rattle.history.specs.Calls.{Call, arrive, storeRun, storeAnswers, Accepted, acceptedOf, CallInRange}
+use Rattle.history.specs.Calls.{Call, arrive, forget, storeRun, storeAnswers, Accepted, acceptedOf, CallInRange}
 use Rattle.history.specs.Meaning.{Entry, entryOf, entriesOf, topOf, cellBy}
-use Rattle.history.specs.Model.{kindOfFull, modelKind, modelArrived, modelRun}
+use Rattle.history.specs.Model.{kindOfFull, modelKind, modelArrived}
 use Rattle.history.specs.KindGiven.{KindGiven}
 use Rattle.history.proofs.Filled.{as-arrivals}
 use Rattle.history.proofs.Heard.{placeBy}
@@ -39,13 +40,6 @@ use Rattle.admission.specs.declared.Arrival.the-variants as arrival
 use Rattle.admission.specs.declared.ArrivalKind.the-variants as kind
 
 -- ---- the kind that the machine gives is that of the stream's history
-not-empty : (a : Accepted) (l : List Accepted) → (a ∷ l) ≡ [] → ⊥
-not-empty a l e = never (cc)
-
-all-of : (P : Entry → Type 0) (es : List Entry) (e : Entry) → All P es → List·Memᴰ e es → P e
-all-of P [] e h m = absurd (List·Memᴰ·not-nil m)
-all-of P (d ∷ es) e h m = ⊎-elim (λ q. subst P (sym q) (h .0)) (λ q. all-of P es e (h .1) q) (List·Memᴰ·cases-cons m)
-
 module _ (number : ℕ) where
   -- a full number that is not above the highest: a copy, or late
   behind-by : (past : List Accepted) → (past ≡ [] → ⊥) → fullOf (topOf past) number ≤ topOf past
@@ -61,10 +55,10 @@ module _ (number : ℕ) where
   kind-by ssrc [] = KindGiven.first refl
   kind-by ssrc (a ∷ l) =
       elim (decLt top full) [
-        | yes u ↦ rw (lt-ltb top full u) (KindGiven.ahead (not-empty a l) (full - (top + 1)) (omega arith))
+        | yes u ↦ rw (lt-ltb top full u) (KindGiven.ahead cons≢nil (full - (top + 1)) (omega arith))
         | no u ↦
             let d : full ≤ top = omega arith in
-            rw (le-ltb top full d) (behind-by (a ∷ l) (not-empty a l) d (cellBy (entriesOf (a ∷ l)) full) refl)
+            rw (le-ltb top full d) (behind-by (a ∷ l) cons≢nil d (cellBy (entriesOf (a ∷ l)) full) refl)
       ]
     where
       top : ℕ
@@ -85,14 +79,14 @@ module _ (number : ℕ) where
 
     held-only : (k : ArrivalKind) → KindGiven past number k → k ≡ modelKind (placeBy ssrc past) number
     unfolding kindOfFull
-    held-only k (KindGiven.first e) = absurd (not-empty a l e)
+    held-only k (KindGiven.first e) = absurd (cons≢nil e)
     held-only k (KindGiven.ahead n passed e) =
         let p : fullOf (topOf past) number - (topOf past + 1) ≡ passed = omega arith in
         rw (lt-ltb (topOf past) (fullOf (topOf past) number) (omega arith), p)
     held-only k (KindGiven.copy e m q) = by-cell (cellBy (entriesOf past) (fullOf (topOf past) number)) refl
       where
         low : fullOf (topOf past) number ≤ topOf past
-        low = let h : e .full ≤ topOf past = all-of (λ (d : Entry). d .full ≤ topOf past) (entriesOf past) e below m in omega arith
+        low = let h : e .full ≤ topOf past = all-member (λ (d : Entry). d .full ≤ topOf past) (entriesOf past) e below m in omega arith
 
         by-cell : (c : Cell) → cellBy (entriesOf past) (fullOf (topOf past) number) ≡ c → kind.Copy ≡ modelKind (placeBy ssrc past) number
         by-cell Empty w = absurd (as-arrivals (entriesOf past) (fullOf (topOf past) number) .filled e m q w)
@@ -136,6 +130,13 @@ model-kind ps once x number mark time k q = by-mark (ltb congested mark) q
         (admitted-as entry ps once x number (arrival.Accepted (modelKind (streamIn ps x) number)) arrival.Refused) e
 
 -- ---- after any list of calls to a fresh store
+-- the highest number once more has the highest full number
+full-again : (top number : ℕ) → number ≡ top % sequenceNumbers → fullOf top number ≡ top
+unfolding fullOf
+full-again top number h =
+    let d : distanceOf number (top % sequenceNumbers) ≡ 0 = omega arith in
+    rw d (omega arith)
+
 module _ (st : Store) (new : Fresh st) (cs : List Call) (range : All CallInRange cs) (ssrc number mark : ℕ) (time : Time)
     (r : CallInRange (arrive ssrc number mark time)) where
   abbrev past-of : List Accepted
@@ -165,3 +166,30 @@ module _ (st : Store) (new : Fresh st) (cs : List Call) (range : All CallInRange
   -- and with no other
   pub kind-only : (k : ArrivalKind) → answer ≡ arrival.Accepted k → (j : ArrivalKind) → KindGiven past-of number j → j ≡ k
   kind-only k e j g = kind-only-by number ssrc past-of below-top j g ∙ sym (kind-is k e)
+
+  -- where the history of the stream is empty, an arrival is the first
+  first-of-none : past-of ≡ [] → (k : ArrivalKind) → answer ≡ arrival.Accepted k → k ≡ kind.First
+  first-of-none none k e = kind-is k e ∙ ap (λ (l : List Accepted). modelKind (placeBy ssrc l) number) none
+
+  -- rule "Late at H": an arrival with the highest number is a copy
+  pub highest-again : (past-of ≡ [] → ⊥) → number ≡ topOf past-of % sequenceNumbers → (k : ArrivalKind) → answer ≡ arrival.Accepted k → k ≡ kind.Copy
+  highest-again some h k e = sym (kind-only k e kind.Copy (copied past-of refl))
+    where
+      copied : (l : List Accepted) → past-of ≡ l → KindGiven past-of number kind.Copy
+      copied [] p = absurd (some p)
+      copied (a ∷ l) p = KindGiven.copy (top .0) (rw p (top .1 .0)) (top .1 .1 ∙ same)
+        where
+          top : (d : Entry) × (List·Memᴰ d (entriesOf (a ∷ l)) × (d .full ≡ topOf (a ∷ l)))
+          top = history.highest-attained a l
+
+          same : topOf (a ∷ l) ≡ fullOf (topOf past-of) number
+          same = ap topOf (sym p) ∙ sym (full-again (topOf past-of) number h)
+
+-- rule "After forgetting": the next arrival of a stream that was forgotten is the first
+pub first-after-forgetting : (st : Store) → Fresh st → (cs : List Call) → All CallInRange cs → (ssrc number mark : ℕ) (time : Time)
+    → CallInRange (arrive ssrc number mark time) → (k : ArrivalKind)
+    → let after : Store = storeRun st (cs ++ (forget ssrc ∷ [])) in
+    arrived (after .places) (after .cells) ssrc number mark time .answer ≡ arrival.Accepted k → k ≡ kind.First
+first-after-forgetting st new cs range ssrc number mark time r =
+    first-of-none st new (cs ++ (forget ssrc ∷ [])) (all-append CallInRange cs (forget ssrc) range (r .0)) ssrc number mark time r
+    (history.forgotten-history st new cs range ssrc (r .0))

@@ -25,7 +25,7 @@ use Rattle.place_window.proofs.Given.{admission-given, admission-only}
 use Rattle.places.proofs.Held.{found-held, held-found, past-free, unheld-lost, lost-unheld}
 use Rattle.cells.specs.Cell.{readCell, wordAfter}
 use Rattle.admission.specs.Kind.{kindIn, laterKind, kindAt}
-use Rattle.admission.proofs.KindOf.{is-ahead, is-behind}
+use Rattle.admission.proofs.KindOf.{is-ahead, is-behind, kind-new, kind-later}
 use Rattle.arrivals.specs.Arrivals.{arrived}
 use Rattle.store.specs.Store.{forgottenAt, forgotten, answerOf, placeOf}
 use Rattle.store.specs.declared.PlaceAnswer.{PlaceAnswer}
@@ -69,12 +69,10 @@ module _ (places cells : List ℕ) (ssrc number mark : ℕ) (time : Time) where
   Admitted o = AdmissionGiven (arrival.Accepted kindHere) arrival.Refused places cells ssrc number o
 
   kind-held : (p high : ℕ) → HeldAt places ssrc p high → kindHere ≡ laterKind (distanceOf number high) (readCell (cellAt cells p number))
-  unfolding kindAt
-  kind-held p high K = let h = held-found places ssrc p high K in rw (h .0, h .1)
+  kind-held p high K = let h = held-found places ssrc p high K in rw (h .0, kind-later places cells p number, h .1)
 
   kind-unheld : Unheld places ssrc → kindHere ≡ kind.First
-  unfolding kindAt
-  kind-unheld n = rw (unheld-lost places ssrc n)
+  kind-unheld n = rw (unheld-lost places ssrc n) (kind-new places cells number)
 
   -- after 4 and 1, the answer to an arrival is that of admitting its number
   admitted-only : Shaped places cells → mark ≤ congested → (o : StoreAfter Arrival) → Admitted o
@@ -180,6 +178,13 @@ module _ (places cells : List ℕ) (ssrc number mark : ℕ) (time : Time) where
 
   pub passed-over-bound : (n : ℕ) → arrived places cells ssrc number mark time .answer ≡ arrival.Accepted (kind.Ahead n) → n ≤ mostPassedOver
   passed-over-bound n q = given-bound (arrived places cells ssrc number mark time) arrival-given n q
+
+  -- and that many where the number is as far ahead as can be
+  pub bound-reached : Shaped places cells → mark ≤ congested → (p high : ℕ) → HeldAt places ssrc p high → distanceOf number high ≡ farthestAhead
+      → arrived places cells ssrc number mark time .answer ≡ arrival.Accepted (kind.Ahead mostPassedOver)
+  bound-reached s m p high K e =
+      let most : distanceOf number high - 1 ≡ mostPassedOver = omega arith in
+      rw (← most) (sym (arrival-only _ (ArrivalGiven.ahead s m p high K (omega arith) (omega arith) places cells)))
 
 -- ---- forgetting
 forgotten-refused : (e : Refusal) → forgetting.Forgotten ≡ forgetting.Refused e → ⊥

@@ -1,9 +1,8 @@
 -- Rules: "Kinds of arrival", rule "Kind by history". Which kind an accepted arrival is, by the
 -- history of its stream: one case for each kind.
-use Prim.Native.Nat.{ℕ, _+_, _-_, _≤_}
+use Prim.Native.Nat.{ℕ, _+_, _≤_}
 use mathlib.Core.Path.{_≡_}
 use mathlib.Core.List.{List, [], List·Memᴰ}
-use Rattle.window.specs.Number.{farthestAhead}
 use Rattle.streams.specs.Full.{fullOf}
 use Rattle.admission.specs.declared.ArrivalKind.{ArrivalKind}
 use Rattle.admission.specs.declared.ArrivalKind.the-variants.{First, Ahead, Late, Copy}
@@ -12,7 +11,7 @@ use Rattle.history.specs.Meaning.{Entry, entriesOf, topOf}
 
 -- the most numbers that an arrival can pass over
 abbrev pub mostPassedOver : ℕ
-mostPassedOver = farthestAhead - 1
+mostPassedOver = 32766
 
 -- past are the accepted arrivals of the stream since it took its place, and number is the one that arrives now
 pub data KindGiven (past : List Accepted) (number : ℕ) : ArrivalKind → Type 0 where

@@ -27,7 +27,7 @@ pub fn start() -> Intake
 
 // Takes the next piece of a file. `octets` are those that the pieces before left, and then the piece; those that are
 // left now are moved to the front. Only ccfbline calls this, and its store has the right shape: with another one every
-// record would be passed over with refusal 4, and nobody would be told.
+// record would be skipped with refusal 4, and nobody would be told.
 pub fn feed(places: &mut [u64], cells: &mut [u64], intake: Intake, octets: &mut [u8]) -> Intake
     requires shape { ⌜ Shaped (now places) (now cells) ⌝ }
     ensures after { λ r. ⌜

@@ -10,7 +10,7 @@ use Rattle.line_store.specs.Fresh.{freshPlaces, freshCells}
 use Rattle.line_newest.specs.Newest.{reportLines}
 use Rattle.line_gap.specs.Gap.{gapLine}
 
--- a fresh store; RTS is 0 where no time is known, and the gap 0 where none was
+-- a fresh store; before any record RTS is 0, and so is the gap
 abbrev pub fresh : Recorded
 fresh = recorded freshPlaces freshCells 0 0
 

@@ -1,37 +1,42 @@
 -- Laws for writing the line of a gap. Assumes nothing.
-use Prim.Native.Nat.{ℕ, suc, _+_, _/_, _%_, _<_, _≤_}
-use mathlib.Core.Path.{_≡_, refl, sym, ap, _∙_}
-use mathlib.Core.Bool.{Bool, true, false, cond}
+use Prim.Native.Nat.{ℕ, _+_, _/_, _%_, _<_, _≤_}
+use mathlib.Core.Path.{_≡_, ap, _∙_}
 use mathlib.Core.List.{List, [], _∷_, _++_, append-assoc}
 use native.Mathlib.Omega.{arith}
+use native.Mathlib.Decide.{decLt}
 use native.Mathlib.Numerals.{add-one}
 use borrow.Author.Tests.{lt-ltb, le-ltb}
-use lib.Dec.{ltb}
 use lib.ListN.{length, set, length-append}
 use lib.Seq.{sets}
 use Rattle.octets.specs.Output.{OutputAfter, outputAfter}
 use Rattle.octets.proofs.Sets.{sets-append}
 use Rattle.line_hex.specs.Hex.{zeroDigit, newline}
-use Rattle.line_gap.specs.Gap.{gapText, digitAt, decimalOf, gapLine, gapRoom, putTextAt}
+use Rattle.line_gap.specs.Gap.{gapText, digitAt, gapDigits, gapLine, gapRoom, putTextAt}
 
 -- ---- one digit
 
-pub digit-below : (out : List ℕ) (at n unit : ℕ) → n < unit → outputAfter at out ≡ putTextAt out at (digitAt n unit)
-unfolding digitAt
-digit-below out at n unit l = let z : at + 0 ≡ at = omega arith in rw (lt-ltb n unit l, z)
+module _ (n unit : ℕ) where
+  pub digit-none : n < unit → digitAt n unit ≡ []
+  unfolding digitAt
+  digit-none l = rw (lt-ltb n unit l)
 
-pub digit-put : (out : List ℕ) (at n unit : ℕ) → unit ≤ n
-    → outputAfter (at + 1) (set out at (zeroDigit + n / unit % 10)) ≡ putTextAt out at (digitAt n unit)
-unfolding digitAt
-digit-put out at n unit l = rw (le-ltb n unit l)
+  pub digit-some : unit ≤ n → digitAt n unit ≡ (zeroDigit + n / unit % 10) ∷ []
+  unfolding digitAt
+  digit-some l = rw (le-ltb n unit l)
 
-pub digit-length : (n unit : ℕ) → length (digitAt n unit) ≤ 1
-unfolding digitAt
-digit-length n unit = go (ltb n unit)
-  where
-    go : (b : Bool) → length (cond b [] ((zeroDigit + n / unit % 10) ∷ [])) ≤ 1
-    go true = omega arith
-    go false = omega arith
+  digit-length : length (digitAt n unit) ≤ 1
+  digit-length =
+      elim (decLt n unit) [
+        | yes l ↦ rw (digit-none l) (omega arith)
+        | no l ↦ rw (digit-some (omega arith)) (omega arith)
+      ]
+
+  pub digit-below : (out : List ℕ) (at : ℕ) → n < unit → outputAfter at out ≡ putTextAt out at (digitAt n unit)
+  digit-below out at l = let z : at + 0 ≡ at = omega arith in rw (digit-none l, z)
+
+  pub digit-put : (out : List ℕ) (at : ℕ) → unit ≤ n
+      → outputAfter (at + 1) (set out at (zeroDigit + n / unit % 10)) ≡ putTextAt out at (digitAt n unit)
+  digit-put out at l = rw (digit-some l)
 
 -- the offset behind a digit
 pub digit-end : (out out′ : List ℕ) (at at′ n unit : ℕ) → outputAfter at′ out′ ≡ putTextAt out at (digitAt n unit) → at′ ≤ at + 1
@@ -41,7 +46,7 @@ digit-end out out′ at at′ n unit e =
 
 -- ---- text after text
 
-then-put : (out mid last : List ℕ) (at i j : ℕ) (xs ys : List ℕ) → outputAfter i mid ≡ putTextAt out at xs → outputAfter j last ≡ putTextAt mid i ys
+pub then-put : (out mid last : List ℕ) (at i j : ℕ) (xs ys : List ℕ) → outputAfter i mid ≡ putTextAt out at xs → outputAfter j last ≡ putTextAt mid i ys
     → outputAfter j last ≡ putTextAt out at (xs ++ ys)
 then-put out mid last at i j xs ys p q =
     let e : i ≡ at + length xs = ap (λ (o : OutputAfter ℕ). o .answer) p in
@@ -67,7 +72,7 @@ gap-put out w a b c d at i j k e n word first second third fourth =
     ∙ ap (putTextAt out at) same
   where
     same : ((((gapText ++ digitAt n 10000) ++ digitAt n 1000) ++ digitAt n 100) ++ digitAt n 10) ++ ((zeroDigit + n % 10) ∷ 10 ∷ [])
-        ≡ gapText ++ (decimalOf n ++ newline)
+        ≡ gapText ++ (gapDigits n ++ newline)
     same = simp append-assoc
 
 pub length-gap : (n : ℕ) → length (gapLine n) ≤ gapRoom

@@ -21,12 +21,12 @@ unfoldable pub digitAt : ℕ → ℕ → List ℕ
 digitAt n unit = cond (ltb n unit) [] ((zeroDigit + n / unit % 10) ∷ [])
 
 -- a number below 100,000: the digits of the ten thousands, thousands, hundreds and tens, and that of the units
-abbrev pub decimalOf : ℕ → List ℕ
-decimalOf n = digitAt n 10000 ++ (digitAt n 1000 ++ (digitAt n 100 ++ (digitAt n 10 ++ ((zeroDigit + n % 10) ∷ []))))
+abbrev pub gapDigits : ℕ → List ℕ
+gapDigits n = digitAt n 10000 ++ (digitAt n 1000 ++ (digitAt n 100 ++ (digitAt n 10 ++ ((zeroDigit + n % 10) ∷ []))))
 
 -- `gap N`
 unfoldable pub gapLine : ℕ → List ℕ
-gapLine gap = gapText ++ (decimalOf gap ++ newline)
+gapLine gap = gapText ++ (gapDigits gap ++ newline)
 
 -- room for the line: a gap has five digits at most
 abbrev pub gapRoom : ℕ

@@ -6,6 +6,9 @@ ghost use lib.Seq.{sets};
 ghost use Rattle.octets.specs.Output.{outputAfter};
 ghost use Rattle.line_gap.specs.Gap.{gapText, gapOctets, digitAt, gapLine, gapRoom, putTextAt};
 
+// The octets of `gap `.
+const GAP_OCTETS: usize = 4;
+
 // Writes `gap ` at an offset of the output.
 fn put_word(out: &mut [u8], at: usize)
     requires room { ⌜ at + gapOctets ≤ length (now out) ⌝ }
@@ -37,7 +40,7 @@ pub fn put_gap(out: &mut [u8], at: usize, gap: u16) -> usize
     ensures after { λ r. ⌜ outputAfter r (now (out .exit)) ≡ putTextAt (now (out .entry)) at (gapLine gap) ⌝ }
 {
     put_word(out, at);
-    let after_ten_thousands = put_digit(out, at + 4, gap, 10000);
+    let after_ten_thousands = put_digit(out, at + GAP_OCTETS, gap, 10000);
     let after_thousands = put_digit(out, after_ten_thousands, gap, 1000);
     let after_hundreds = put_digit(out, after_thousands, gap, 100);
     let end = put_digit(out, after_hundreds, gap, 10);

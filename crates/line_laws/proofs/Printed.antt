@@ -42,7 +42,7 @@ use Rattle.line.specs.Line.{ifWhole, finishedText}
 use Rattle.line_newest.specs.Newest.{reportText}
 use Rattle.line_gap.specs.Gap.{gapLine}
 use Rattle.line.specs.Printed.{fresh, reportOf, printedOf, printed}
-use Rattle.line_laws.specs.Laws.{Answered, LastTime, fedPieces}
+use Rattle.line_laws.specs.Laws.{Answered, answerTo, LastTime, fedPieces}
 use Rattle.line_laws.proofs.Records.{callOf, InRange, file-range, calls-range}
 use Rattle.line_laws.proofs.Streams.{sound-requests}
 use Rattle.metric.specs.declared.Time.the-variants.{Unknown, Known}
@@ -192,7 +192,7 @@ all-before (q ∷ qs) r more h = let t = all-before qs r more (h .1) in ((h .0, 
 
 -- Each record of a file without fault, in the store that those before it have made, is accepted or skipped with 2 or 3.
 pub taken-or-skipped : (s : List ℕ) (qs : List Record) (r : Record) (more : List Record) → Octets s → fileOf s ≡ sound (qs ++ r ∷ more)
-    → let x : Recorded = foldl afterRecord fresh qs in Answered (arrived (x .places) (x .cells) (r .ssrc) (r .number) (r .mark) (r .time) .answer)
+    → Answered (answerTo (foldl afterRecord fresh qs) r)
 taken-or-skipped s qs r more o e =
     let range = all-before qs r more (file-range s (qs ++ r ∷ more) o e) in
     let x : Recorded = foldl afterRecord fresh qs in

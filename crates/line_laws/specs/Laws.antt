@@ -10,7 +10,10 @@ use Rattle.arrivals.specs.Arrivals.{arrived}
 use Rattle.arrival_record.specs.declared.Record.{Record}
 use Rattle.recording.specs.Recorded.{Recorded, afterRecord}
 use Rattle.line.specs.Printed.{fresh}
+use Rattle.line_hex.specs.Hex.{newline}
+use Rattle.line_gap.specs.Gap.{gapText}
 use Rattle.line_store.specs.Fresh.{freshPlaces, freshCells}
+use Rattle.line_laws.specs.Decimal.{InDecimal}
 use Rattle.refusal.specs.declared.Refusal.the-variants.{NoFreePlace, TooOld}
 use Rattle.metric.specs.declared.Time.the-variants.{Unknown, Known}
 use Rattle.admission.specs.declared.Arrival.the-variants as arrival
@@ -29,15 +32,26 @@ pub data LastTime (rs : List Record) : ℕ → Type 0 where
   last : (before : List Record) (r : Record) (later : List Record) (t : ℕ) → rs ≡ before ++ r ∷ later → r .time ≡ Known t
       → All (λ q. q .time ≡ Unknown) later → LastTime rs t
 
--- the record r, in the store that the records before it made, is accepted, is ahead, and passes over n numbers
+-- the answer to a record, in the store that the records before it made
+abbrev pub answerTo : Recorded → Record → Arrival
+answerTo x r = arrived (x .places) (x .cells) (r .ssrc) (r .number) (r .mark) (r .time) .answer
+
+-- it is accepted, is ahead, and passes over n numbers
 pub record PassesOver (before : List Record) (r : Record) (n : ℕ) : Type 0 where
-  pub is : let x : Recorded = foldl afterRecord fresh before in
-      arrived (x .places) (x .cells) (r .ssrc) (r .number) (r .mark) (r .time) .answer ≡ arrival.Accepted (kind.Ahead n)
+  pub is : answerTo (foldl afterRecord fresh before) r ≡ arrival.Accepted (kind.Ahead n)
 
 -- rule "Gap": no record passes over more numbers, and one passes over as many, unless the gap is 0
 pub record GapIs (rs : List Record) (gap : ℕ) : Type 0 where
   pub most : (before : List Record) (r : Record) (later : List Record) (n : ℕ) → rs ≡ before ++ r ∷ later → PassesOver before r n → n ≤ gap
-  pub reached : 0 < gap → (before : List Record) × ((r : Record) × ((later : List Record) × ((rs ≡ before ++ r ∷ later) × PassesOver before r gap)))
+  pub attained : 0 < gap → (before : List Record) × ((r : Record) × ((later : List Record) × ((rs ≡ before ++ r ∷ later) × PassesOver before r gap)))
+
+-- the text that is printed for these records, after their report: `gap N`, with N their gap in decimal
+pub record PrintsGap (rs : List Record) (text : List ℕ) : Type 0 where
+  pub gap : ℕ
+  pub is : GapIs rs gap
+  pub digits : List ℕ
+  pub decimal : InDecimal gap digits
+  pub line : text ≡ gapText ++ (digits ++ newline)
 
 -- what the calls of `feed` leave that take a file piece by piece into a fresh store of four places
 abbrev pub fedPieces : List (List ℕ) → intake.IntakeAfter

@@ -159,7 +159,7 @@ module _ (out text : List ℕ) where
           omega (arith, length-line (take o packet), length-take o packet),
     )
 
-    -- the same text
-    pub put-as : (other : List ℕ) → text ≡ other → (outputAfter r exit ≡ putText out other) × (r ≤ lineRoom)
-        → (outputAfter r exit ≡ putText out text) × (r ≤ lineRoom)
-    put-as other e h = (rw e (h .0), h .1)
+    -- the same text, in the same room
+    pub put-as : (room : ℕ) (other : List ℕ) → text ≡ other → (outputAfter r exit ≡ putText out other) × (r ≤ room)
+        → (outputAfter r exit ≡ putText out text) × (r ≤ room)
+    put-as room other e h = (rw e (h .0), h .1)

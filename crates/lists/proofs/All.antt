@@ -1,5 +1,6 @@
 -- Laws of `All`. Assumes nothing.
-use mathlib.Core.List.{List, [], _∷_, _++_, map, dropLast}
+use mathlib.Core.List.{List, [], _∷_, _++_, map, dropLast, List·Memᴰ, List·Memᴰ·not-nil, List·Memᴰ·cases-cons}
+use mathlib.Core.Logic.{⊎-elim}
 use Rattle.lists.specs.All.{All}
 
 module _ {A : Type 0} where
@@ -30,6 +31,10 @@ module _ {A : Type 0} where
   pub all-join : (P : A → Type 0) (xs ys : List A) → All P xs → All P ys → All P (xs ++ ys)
   all-join P [] ys h g = g
   all-join P (x ∷ xs) ys h g = (h .0, all-join P xs ys (h .1) g)
+
+  pub all-member : (P : A → Type 0) (xs : List A) (x : A) → All P xs → List·Memᴰ x xs → P x
+  all-member P [] x h m = absurd (List·Memᴰ·not-nil m)
+  all-member P (y ∷ xs) x h m = ⊎-elim (λ e. rw e (h .0)) (λ n. all-member P xs x (h .1) n) (List·Memᴰ·cases-cons m)
 
   pub all-but-last : (P : A → Type 0) (xs : List A) → All P xs → All P (dropLast xs)
   all-but-last P [] h = tt

@@ -3,10 +3,10 @@
 -- with the highest number is sound. Assumes nothing.
 use Prim.Native.Nat.{ℕ, _+_, _-_, _%_, _<_, _≤_}
 use mathlib.Core.Path.{_≡_, sym, ap, _∙_}
-use mathlib.Core.List.{List, [], _∷_, List·Memᴰ, List·Memᴰ·not-nil, List·Memᴰ·cases-cons}
-use mathlib.Core.Logic.{⊎-elim}
+use mathlib.Core.List.{List, [], _∷_, List·Memᴰ}
 use native.Mathlib.Omega.{arith}
 use Rattle.lists.specs.All.{All}
+use Rattle.lists.proofs.All.{all-member}
 use Rattle.lists.proofs.Cases.{split-le}
 use Rattle.refusal.specs.declared.Refusal.{Refusal}
 use Rattle.ring.specs.Ring.{cellsOfAPlace}
@@ -37,10 +37,6 @@ use Rattle.places.specs.declared.Holding.the-variants.{Held}
 use Rattle.oldest.specs.declared.OldestAnswer.the-variants as answer
 
 -- ---- entries
-all-member : {A : Type 0} (P : A → Type 0) (xs : List A) (x : A) → All P xs → List·Memᴰ x xs → P x
-all-member P [] x h m = absurd (List·Memᴰ·not-nil m)
-all-member P (y ∷ xs) x h m = ⊎-elim (λ e. rw e (h .0)) (λ n. all-member P xs x (h .1) n) (List·Memᴰ·cases-cons m)
-
 -- the highest full number of a stream that has begun is that of an arrival
 attained : (l : List Accepted) → sequenceNumbers ≤ topOf l → (e : Entry) × (List·Memᴰ e (entriesOf l) × (e .full ≡ topOf l))
 attained [] g = absurd (omega arith)

@@ -30,7 +30,7 @@ unfoldable pub reportsOf : List Block → List NumberReport
 reportsOf [] = []
 reportsOf (b ∷ bs) = reportsFrom (b .ssrc) (b .begin) 0 (b .metrics) ++ reportsOf bs
 
--- the word of the number that is b behind the highest one; one that is not in the window is passed over
+-- the word of the number that is b behind the highest one; one that is not in the window is ignored
 unfoldable pub wordInWindow : ℕ → ℕ → ℕ → ℕ → ℕ
 wordInWindow b metric rts word = cond (leb cellsOfAPlace b) word (wordReported metric rts word)
 
@@ -39,7 +39,7 @@ abbrev pub reportedAt : ℕ → ℕ → ℕ → List ℕ → ℕ → ℕ → Lis
 reportedAt p highest rts cells number metric =
     updated (wordInWindow (distanceOf highest number) metric rts) cells p number
 
--- a stream that no place holds is passed over
+-- a stream that no place holds is ignored
 abbrev pub reportedFound : Found → List ℕ → ℕ → List ℕ → ℕ → ℕ → List ℕ
 reportedFound (At p) places rts cells number metric = reportedAt p (highestAt places p) rts cells number metric
 reportedFound Nothing places rts cells number metric = cells

@@ -52,7 +52,7 @@ abbrev pub lastOf : List Status → Status
 lastOf [] = NotReported
 lastOf (s ∷ ss) = cond (anyReceived ss) (lastOf ss) s
 
--- what is known by the events of a number: what was reported before its first registration was passed over
+-- what is known by the events of a number: what was reported before its first registration was ignored
 abbrev pub shownOf : List Event → Sent
 shownOf [] = NotRegistered
 shownOf (wasRegistered ∷ es) = Registered (lastOf (statusesOf es))

@@ -72,7 +72,7 @@ ofReports =
     ∷ case (send 7 ∷ feedback 0 (block 7 (later ∷ []) ∷ []) ∷ []) 7 (Known (Received 3 (2 ^ 32 - 64)))
     ∷ []
 
--- a registration: what came before it was passed over, and a second one changes nothing
+-- a registration: what came before it was ignored, and a second one changes nothing
 unfoldable pub ofRegistrations : List Case
 ofRegistrations =
     case (send 6 ∷ send 8 ∷ reports 7 earlier ∷ send 7 ∷ []) 7 (Known NotReported)

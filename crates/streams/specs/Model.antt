@@ -1,7 +1,7 @@
 -- Rules: "Arrivals and the window", "What a store means". The meaning of places and windows as a
 -- machine of its own, without cells and rings: each place is free, or holds a stream with its SSRC,
 -- its highest full number and its entries in their order, whatever an entry is.
-use Prim.Native.Nat.{ℕ, _+_, max}
+use Prim.Native.Nat.{ℕ, max}
 use mathlib.Core.Bool.{Bool, true, false, cond}
 use mathlib.Core.List.{List, [], _∷_, _++_}
 use lib.ListN.{length, getD, set, replicate}
@@ -71,7 +71,7 @@ module _ {E : Type 0} (entry : ℕ → E) where
   addedAt ps k ssrc full =
       set ps k (stream ssrc (max (highestIn (at ps k)) full) (entriesIn (at ps k) ++ (entry full ∷ [])))
 
-  -- an entry that leaves the window where it is; a number that is not in it is passed over
+  -- an entry that leaves the window where it is; a number that is not in it is ignored
   unfoldable pub notedAt : List (Place E) → ℕ → ℕ → ℕ → List (Place E)
   notedAt ps k ssrc full =
       cond (leb full (highestIn (at ps k)))
@@ -82,7 +82,7 @@ module _ {E : Type 0} (entry : ℕ → E) where
   notedIn (At k) ps ssrc number = notedAt ps k ssrc (fullOf (highestIn (at ps k)) number)
   notedIn Nothing ps ssrc number = ps
 
-  -- a stream that no place holds is passed over too
+  -- a stream that no place holds is ignored too
   abbrev pub noted : List (Place E) → ℕ → ℕ → List (Place E)
   noted ps ssrc number = notedIn (findIn ps ssrc) ps ssrc number
 

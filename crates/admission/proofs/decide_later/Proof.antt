@@ -1,6 +1,5 @@
 -- `admission::decide_later` meets its contract. Assumes nothing.
 use mathlib.Core.Path.{_≡_, sym, _∙_}
-use native.Mathlib.Omega.{arith}
 use borrow.Author.Needs.{needs}
 use Rattle.window.specs.Number.{moveOf}
 use Rattle.places.specs.Place.{highestAt}

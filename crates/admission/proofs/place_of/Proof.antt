@@ -1,9 +1,7 @@
 -- `admission::place_of` meets its contract. Assumes nothing.
-use mathlib.Core.Path.{sym, _∙_, ap}
-use native.Mathlib.Nat.{sub-zero}
+use mathlib.Core.Path.{sym}
 use lib.ListN.{length}
 use borrow.Author.Needs.{needs}
-use Rattle.lists.specs.First.{firstFrom}
 use Rattle.lists.proofs.First.{first-at}
 use Rattle.places.specs.Place.{holds}
 use Rattle.places.proofs.Places.{stream-is}

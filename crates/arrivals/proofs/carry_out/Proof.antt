@@ -1,6 +1,6 @@
 -- `arrivals::carry_out` meets its contract. Assumes nothing.
 use Prim.Native.Nat.{_<_, _≤_}
-use mathlib.Core.Path.{_≡_, refl, ap, subst, _∙_}
+use mathlib.Core.Path.{refl, subst}
 use native.Mathlib.Omega.{arith}
 use borrow.Author.Needs.{needs}
 use lib.ListN.{length}
@@ -8,7 +8,6 @@ use Rattle.metric.specs.Metric.{congested}
 use Rattle.places.specs.Shape.{Ready}
 use Rattle.place_window.specs.Window.{updated}
 use Rattle.admission.specs.Decision.{Fits}
-use Rattle.admission.specs.declared.Decision.{Decision}
 use Rattle.arrivals.proofs.carry_out.Statement.{statement}
 use Rattle.arrivals.proofs.carry_out.Tie as tie
 

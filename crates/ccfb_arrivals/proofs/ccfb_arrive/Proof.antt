@@ -6,12 +6,12 @@ use lib.ListN.{set}
 use borrow.Author.Needs.{needs}
 use Rattle.metric.specs.Metric.{timeOf}
 use Rattle.cells.specs.Cell.{filledWord}
-use Rattle.admission.specs.Decision.{decided, answerOf, Fits}
+use Rattle.admission.specs.Decision.{decided, arrivalAnswer, Fits}
 use Rattle.admission.specs.declared.ArrivalKind.{ArrivalKind}
 use Rattle.admission.specs.declared.Decision.{Decision}
 use Rattle.arrivals.specs.Arrivals.{arrived}
 use Rattle.arrivals.specs.Steps.{placesBy, cellsBy}
-use Rattle.ccfb_arrivals.specs.Arrivals.{kindNumber, passedOver, arrivalAfter, arriveCalled}
+use Rattle.ccfb_arrivals.specs.Arrivals.{arrivalKindNumber, passedOver, arrivalAfter, arriveCalled}
 use Rattle.ccfb_arrivals.proofs.Called.{accepted-called, refused-called}
 use Rattle.admission.specs.declared.Arrival.the-variants as arrival
 use Rattle.ccfb_arrivals.proofs.ccfb_arrive.Statement.{statement}
@@ -20,10 +20,10 @@ use Rattle.ccfb_arrivals.proofs.ccfb_arrive.Tie as tie
 -- what is left once an arrival of a kind was handed over and carried out
 handed-over : (c : tie.After-filled-word) (d : Decision) (k : ArrivalKind) (places cells behind : List ℕ)
     → let a = c .before .before .before .before .before .before .before .args in
-    d ≡ decided (a .places .now) (a .cells .now) (a .ssrc) (a .number) (a .mark) → answerOf d ≡ arrival.Accepted k
+    d ≡ decided (a .places .now) (a .cells .now) (a .ssrc) (a .number) (a .mark) → arrivalAnswer d ≡ arrival.Accepted k
     → places ≡ placesBy (a .places .now) (a .ssrc) (a .number) d
     → cells ≡ cellsBy (a .cells .now) (a .number) (a .mark) (c .filled-word .result) d
-    → behind ≡ set (set (a .arrival .now) 0 (kindNumber k)) 1 (passedOver k)
+    → behind ≡ set (set (a .arrival .now) 0 (arrivalKindNumber k)) 1 (passedOver k)
     → arrivalAfter 0 places cells behind
     ≡ arriveCalled (arrived (a .places .now) (a .cells .now) (a .ssrc) (a .number) (a .mark) (timeOf (a .time-known) (a .time))) (a .arrival .now)
 handed-over c d k places cells behind is answer p q b =
@@ -46,7 +46,7 @@ returns c =
     let put = done .before .before .before in
     let told = put .before .before in
     let filled = told .before .before in
-    handed-over filled _ _ _ _ _ (filled .before .before .decide .ensures .0) (ap answerOf (told .enum-told .given .1))
+    handed-over filled _ _ _ _ _ (filled .before .before .decide .ensures .0) (ap arrivalAnswer (told .enum-told .given .1))
     (done .carry-out .ensures .0) (done .carry-out .ensures .1) (put .put-kind .ensures)
 
 returns-2 : tie.Need-returns-2
@@ -64,7 +64,7 @@ returns-3 c =
     let put = done .before .before .before in
     let told = put .before .before in
     let filled = told .before .before in
-    handed-over filled _ _ _ _ _ (filled .before .before .decide .ensures .0) (ap answerOf (told .enum-told2 .given .1))
+    handed-over filled _ _ _ _ _ (filled .before .before .decide .ensures .0) (ap arrivalAnswer (told .enum-told2 .given .1))
     (done .carry-out3 .ensures .0) (done .carry-out3 .ensures .1) (put .put-kind3 .ensures)
 
 returns-4 : tie.Need-returns-4
@@ -73,7 +73,7 @@ returns-4 c =
     let put = done .before .before .before in
     let told = put .before .before in
     let filled = told .before .before in
-    handed-over filled _ _ _ _ _ (filled .before .before .decide .ensures .0) (ap answerOf (told .enum-told3 .given .1))
+    handed-over filled _ _ _ _ _ (filled .before .before .decide .ensures .0) (ap arrivalAnswer (told .enum-told3 .given .1))
     (done .carry-out4 .ensures .0) (done .carry-out4 .ensures .1) (put .put-kind4 .ensures)
 
 returns-5 : tie.Need-returns-5

@@ -2,9 +2,9 @@
 use mathlib.Core.List.{_++_}
 use Rattle.line_newest.specs.Newest.{reportText}
 use Rattle.line_gap.specs.Gap.{gapLine}
-use Rattle.line.specs.Line.{finishedText}
-use Rattle.line.proofs.Ends.{whole-text, faulty-text, gap-behind, text-as, line-fits}
-use Rattle.line_report.proofs.OnePacket.{put-refused}
+use Rattle.line.specs.Line.{textRoom, finishedText}
+use Rattle.line.proofs.Ends.{whole-text, faulty-text, gap-behind, line-fits}
+use Rattle.line_report.proofs.OnePacket.{put-refused, put-as}
 use borrow.Author.Needs.{needs}
 use Rattle.line.proofs.finish.Statement.{statement}
 use Rattle.line.proofs.finish.Tie as tie
@@ -22,7 +22,7 @@ returns c =
     let i = args .intake in
     let report = reportText places cells (i .rts) in
     let reported = after-report .report .ensures in
-    text-as out _ (finishedText places cells i) (report ++ gapLine (i .gap)) _
+    put-as out (finishedText places cells i) _ _ textRoom (report ++ gapLine (i .gap))
     (whole-text places cells i _ (after-check-end .check-end .ensures) (after-enum-told .enum-told .given .1))
     (gap-behind out _ _ report _ _ (i .gap) (reported .0) (reported .1) (after-put-gap .put-gap .ensures))
 
