@@ -122,11 +122,11 @@ static void send_feedback(const uint8_t *packet, size_t len)
 static uint64_t places[PLACES]; /* zeroed: a fresh store */
 static uint64_t cells[CCFB_CELLS(PLACES)];
 
-/*
- * The last request that was sent for the stream in a place; before that, one of no numbers at the
- * stream's first arrival.
- */
-static struct ccfb_request told[PLACES];
+/* What is known of the reports on the stream in a place. */
+static struct told {
+    uint16_t next;  /* where the new numbers start; before any report, the first arrival */
+    uint16_t count; /* how many numbers the last report had; before any report, 0 */
+} told[PLACES];
 
 static unsigned arrivals[CCFB_COPY + 1]; /* how many of each kind */
 static uint16_t gap;                     /* the most numbers that one of them passed over */
@@ -139,7 +139,7 @@ static void start_reports(uint32_t ssrc, uint16_t number)
     for (size_t k = 0; k < PLACES; k++)
         if (ccfb_place(places, PLACES, cells, CCFB_CELLS(PLACES), k, &held, &highest) == 0 &&
             held == ssrc) {
-            told[k].begin = number;
+            told[k].next = number;
             told[k].count = 0;
         }
 }
@@ -165,14 +165,14 @@ static void receive_all(void)
 }
 
 /*
- * How many numbers to report, up to the highest: those since the last report, and up to AGAIN of
- * that one, of which some may have come late. So no report starts before the first arrival: the
- * numbers from before it may never have been sent.
+ * How many numbers to report, up to the highest: the new ones, and up to AGAIN of the last report,
+ * of which some may have come late; but never more than it had, so that no report starts before
+ * the first arrival. Numbers from before that one may never have been sent.
  */
-static uint16_t numbers_to_report(const struct ccfb_request *last, uint16_t highest)
+static uint16_t numbers_to_report(const struct told *t, uint16_t highest)
 {
-    uint16_t fresh = (uint16_t)(highest + 1 - (last->begin + last->count));
-    uint16_t again = last->count < AGAIN ? last->count : (uint16_t)AGAIN;
+    uint16_t fresh = (uint16_t)(highest + 1 - t->next);
+    uint16_t again = t->count < AGAIN ? t->count : (uint16_t)AGAIN;
     if (fresh == 0)
         return 0;
     if (fresh + again > CCFB_CELLS_OF_A_PLACE)
@@ -191,6 +191,15 @@ static bool next_request(size_t k, struct ccfb_request *request)
     return request->count != 0;
 }
 
+/* Remembers a request that was sent. One for an empty block changes nothing. */
+static void remember(struct told *t, const struct ccfb_request *sent)
+{
+    if (sent->count == 0)
+        return;
+    t->next = (uint16_t)(sent->begin + sent->count);
+    t->count = sent->count;
+}
+
 static void report(void)
 {
     static uint8_t out[ROOM];
@@ -207,7 +216,7 @@ static void report(void)
     while (ccfb_next_packet(out, octets, &at, &type, &format, &packet_at, &length) == 0)
         send_feedback(out + packet_at, length);
     for (size_t i = 0; i < n; i++)
-        told[place[i]] = requests[i];
+        remember(&told[place[i]], &requests[i]);
 }
 
 /* ---- The camera */

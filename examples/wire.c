@@ -59,9 +59,9 @@ static uint64_t cells[CCFB_CELLS(PLACES)];
 
 /* What is known of the reports on the stream in a place. */
 static struct told {
-    /* The last one that was sent; before that, one of no numbers at the stream's first arrival. */
-    struct ccfb_request last;
-    time_t heard; /* when the stream last had something new */
+    uint16_t next;  /* where the new numbers start; before any report, the first arrival */
+    uint16_t count; /* how many numbers the last report had; before any report, 0 */
+    time_t heard;   /* when the stream last had something new */
 } told[PLACES];
 
 /* The first arrival of a stream: its reports start at this number. */
@@ -72,8 +72,8 @@ static void start_reports(uint32_t ssrc, uint16_t number)
     for (size_t k = 0; k < PLACES; k++)
         if (ccfb_place(places, PLACES, cells, CCFB_CELLS(PLACES), k, &held, &highest) == 0 &&
             held == ssrc) {
-            told[k].last.begin = number;
-            told[k].last.count = 0;
+            told[k].next = number;
+            told[k].count = 0;
         }
 }
 
@@ -137,11 +137,11 @@ static void receive_all(int s)
 
 /* ---- The receiver: what it reports */
 
-/* How many numbers to report, up to the highest: those since the last report, and AGAIN of it. */
-static uint16_t numbers_to_report(const struct ccfb_request *last, uint16_t highest)
+/* How many numbers to report, up to the highest: those that are new, and up to AGAIN once more. */
+static uint16_t numbers_to_report(const struct told *t, uint16_t highest)
 {
-    uint16_t fresh = (uint16_t)(highest + 1 - (last->begin + last->count));
-    uint16_t again = last->count < AGAIN ? last->count : (uint16_t)AGAIN;
+    uint16_t fresh = (uint16_t)(highest + 1 - t->next);
+    uint16_t again = t->count < AGAIN ? t->count : (uint16_t)AGAIN;
     if (fresh == 0)
         return 0;
     if (fresh + again > CCFB_CELLS_OF_A_PLACE)
@@ -159,13 +159,22 @@ static bool next_request(size_t k, time_t now, struct ccfb_request *request)
     uint16_t highest;
     if (ccfb_place(places, PLACES, cells, CCFB_CELLS(PLACES), k, &request->ssrc, &highest) != 0)
         return false; /* the place is free */
-    request->count = numbers_to_report(&t->last, highest);
+    request->count = numbers_to_report(t, highest);
     request->begin = (uint16_t)(highest - request->count + 1);
     if (request->count != 0)
         t->heard = now;
     else if (now - t->heard > SILENCE)
         ccfb_forget(places, PLACES, cells, CCFB_CELLS(PLACES), request->ssrc);
     return request->count != 0;
+}
+
+/* Remembers a request that was sent. One for an empty block changes nothing. */
+static void remember(struct told *t, const struct ccfb_request *sent)
+{
+    if (sent->count == 0)
+        return;
+    t->next = (uint16_t)(sent->begin + sent->count);
+    t->count = sent->count;
 }
 
 /* What each datagram starts with: a receiver report without blocks, and a CNAME. */
@@ -209,7 +218,7 @@ static void report(int s)
         perror("send");
     else
         for (size_t i = 0; i < n; i++)
-            told[place[i]].last = requests[i];
+            remember(&told[place[i]], &requests[i]);
 }
 
 /* ---- The camera */

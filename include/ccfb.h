@@ -117,10 +117,10 @@ void ccfb_decode_metric(uint16_t metric, uint8_t *kind, uint8_t *mark, uint16_t 
 #define CCFB_CELLS(places) (CCFB_CELLS_OF_A_PLACE * (places))
 
 /* The kinds of accepted arrival. */
-#define CCFB_FIRST 0 /* the first of its stream, which had no place before */
+#define CCFB_FIRST 0 /* its stream had no place: it is new, or was forgotten */
 #define CCFB_AHEAD 1 /* ahead of the highest number; it may have passed over some */
-#define CCFB_LATE 2  /* behind the highest number, and not received before */
-#define CCFB_COPY 3  /* received before */
+#define CCFB_LATE 2  /* behind the highest number, not received since the stream took its place */
+#define CCFB_COPY 3  /* received since the stream took its place */
 
 /* The most numbers that one arrival can pass over. */
 #define CCFB_MOST_PASSED_OVER 32766
@@ -141,9 +141,9 @@ struct ccfb_arrival {
  *   mark            the packet's ECN mark, CCFB_NOT_ECT to CCFB_CE
  *   time_known      whether time says when it arrived
  *   time            when it arrived, in 1/65536 s; ignored unless time_known
- *   arrival         what it was. CCFB_FIRST is where reports on the stream start: numbers from
- *                   before it may never have been sent. CCFB_AHEAD with passed_over 0 is the next
- *                   number in order.
+ *   arrival         what it was; not NULL, even if you do not need it. CCFB_FIRST is where reports
+ *                   on the stream start: numbers from before it may never have been sent.
+ *                   CCFB_AHEAD with passed_over 0 is the next number in order.
  *
  * Returns 0, or the first of these that applies; the store and *arrival are then unchanged:
  *   CCFB_BAD_STORE       the lengths are not as above
@@ -177,9 +177,9 @@ uint8_t ccfb_place(const uint64_t *places, size_t places_len, const uint64_t *ce
 
 /*
  * The oldest sequence number that arrived, among the 2,048 that the store knows of the stream of
- * place k, from 0. For a caller that did not see the stream's first arrival (CCFB_FIRST), the
- * first report starts here: of the numbers before it none arrived, and they may never have been
- * sent.
+ * place k, from 0 (its window). For a caller that did not see the stream's first arrival
+ * (CCFB_FIRST), the first report starts here: of the numbers before it in the window none arrived,
+ * and they may never have been sent.
  *
  * Returns 0, or a refusal as ccfb_place does.
  */
@@ -406,7 +406,7 @@ uint8_t ccfb_next_packet(const uint8_t *datagram, size_t len, size_t *at, uint8_
 
 /*
  * Registers a sequence number that was sent. Call it before the packet can be reported on: a
- * report on a number that is not registered is passed over.
+ * report on a number that is not registered is ignored.
  *
  * The window moves as with ccfb_arrive: a higher number moves it on, and a new stream takes the
  * free place with the lowest index. Registering a number again changes nothing while it is among
@@ -425,7 +425,7 @@ uint8_t ccfb_register(uint64_t *places, size_t places_len, uint64_t *cells, size
 /*
  * Takes in a CCFB packet: block by block, number by number, what it says of each number that is
  * registered and in the window of its stream. Other numbers, and streams that were never
- * registered, are passed over.
+ * registered, are ignored.
  *
  * "Not received" never replaces "received". Of several packets that report a number as received,
  * the one that is taken in last decides mark and time, even if it is the older one. Who sent the

@@ -102,8 +102,7 @@ impl Camera {
         Ok(())
     }
 
-    /// Takes in the feedback of every datagram that has come. Other RTCP packets in it are passed
-    /// over.
+    /// Takes in the feedback of every datagram that has come, and skips other RTCP packets.
     fn take_in_all(&mut self) -> io::Result<()> {
         let mut datagram = [0; DATAGRAM];
         while let Some(len) = received(&self.socket, &mut datagram)? {

@@ -21,13 +21,13 @@ pub(crate) const COPY: u16 = 3;
 /// # Ok::<(), Refusal>(())
 /// ```
 ///
-/// Late ones are packets that were reordered on the way, and copies were duplicated. A number that
-/// was passed over is not lost yet: it may still come late.
+/// Late packets were reordered on the way, and copies were duplicated. After its stream was
+/// [forgotten](crate::StoreOver::forget), a duplicate from before need not be a copy. A number
+/// that was passed over is not lost yet: it may still come late.
 #[derive(Clone, Copy, Debug, PartialEq, Eq, Hash)]
 pub enum ArrivalKind {
-    /// The first of its stream, which had no place before: because it is new, or because it was
-    /// [forgotten](crate::StoreOver::forget). The reports on it
-    /// [start here](crate::Reporter::arrived).
+    /// Its stream had no place: it is new, or was [forgotten](crate::StoreOver::forget). The
+    /// reports on the stream [start here](crate::Reporter::arrived).
     First,
     /// Ahead of the highest number so far.
     Ahead {
@@ -35,9 +35,9 @@ pub enum ArrivalKind {
         /// [`MOST_PASSED_OVER`](crate::MOST_PASSED_OVER).
         passed_over: u16,
     },
-    /// Behind the highest number, and not received before.
+    /// Behind the highest number, and not received since the stream took its place.
     Late,
-    /// Received before.
+    /// Received since the stream took its place.
     Copy,
 }
 

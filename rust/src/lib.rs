@@ -59,7 +59,8 @@
 //! missing, and a sender takes that for loss: the newest 64 numbers of a stream of which one
 //! packet arrived are 98 % loss. Report what is new since the last report, and a few numbers
 //! again for packets that arrive late. A [`Reporter`] does that if it is told of each
-//! [arrival](Reporter::arrived), and [`Stream`] has the ranges to do it by hand.
+//! [arrival](Reporter::arrived). [`Stream`] has ranges to use by hand; it does not know the first
+//! arrival, and some of its ranges may reach back to a late packet from before it.
 //!
 //! # What may be trusted
 //!

@@ -8,8 +8,10 @@ use crate::{ArrivalKind, Request, Requests, Stream};
 /// The first report on a stream starts at its [first arrival](Reporter::arrived); each later one
 /// has the numbers since the last, and as many of that one again as the overlap says. **No report
 /// has numbers from before the first arrival, as long as the reporter is told what each arrival
-/// was**, with at most 16 first ones [between two reports](Reporter::arrived). Nobody knows whether such numbers were sent, and the sender would take them for lost. A
-/// stream of which nothing is new gets its overlap, or an empty block without one, so that every
+/// was**, with at most 16 first ones [between two reports](Reporter::arrived). Nobody knows whether
+/// such numbers were sent, and the sender would take them for lost.
+///
+/// A stream of which nothing is new gets its overlap, or an empty block without one, so that every
 /// report names each stream that the store holds: the sender then sees that nothing arrived.
 ///
 /// A stream whose first arrival the reporter was not told of, as in a store that other code has
@@ -17,7 +19,8 @@ use crate::{ArrivalKind, Request, Requests, Stream};
 ///
 /// Report at least once in 2,048 packets of a stream: the store knows of no more numbers, and a
 /// report on a stream that has moved on farther starts at the lowest number that it knows of. If
-/// 32,768 numbers or more are new, it starts at the oldest of the window that arrived.
+/// 32,768 to 65,535 numbers are new, it starts at the oldest of the window that arrived; 65,536
+/// look like none, since numbers come round.
 ///
 /// ```
 /// use ccfb::{Mark, Refusal, Report, Reporter, Request, Store, Time};
@@ -70,7 +73,7 @@ pub struct Reporter {
 
 impl Reporter {
     /// Nothing is reported yet. Every report after the first on a stream will have up to `overlap`
-    /// numbers of the one before once more: as many as packets are late by, see
+    /// numbers of the one before once more: choose more than packets are late by, see
     /// [`Stream::since_with_overlap`].
     pub const fn new(overlap: u16) -> Reporter {
         Reporter { overlap, reported: Requests::NONE, started: Requests::NONE }
@@ -80,6 +83,9 @@ impl Reporter {
     /// each, or at least for those that are the first of their stream: the reports on the stream
     /// then start at this number. What was known of the stream before is dropped, so one that was
     /// forgotten and came back starts anew. The other kinds change nothing.
+    ///
+    /// If another thread reports, hold one lock over the arrival and this call:
+    /// [`StoreIn`](crate::StoreIn) has an example.
     ///
     /// **16 first arrivals are remembered between two calls of [`requests`](Reporter::requests).**
     /// A 17th takes the place of the earliest of them, whose stream, if the store still holds it,
@@ -108,7 +114,8 @@ impl Reporter {
         if kind == ArrivalKind::First {
             self.forget(ssrc);
             // As if the number before had been reported, and none that may be repeated.
-            self.started.add(Request { ssrc, begin: number.wrapping_sub(1), count: 0 });
+            let start = Request { ssrc, begin: number.wrapping_sub(1), count: 0 };
+            self.started.add_dropping_earliest(start);
         }
     }
 

@@ -72,7 +72,7 @@ impl Requests {
     }
 
     /// Adds a request for a stream that has none. A 17th takes the place of the earliest.
-    pub(crate) fn add(&mut self, request: Request) {
+    pub(crate) fn add_dropping_earliest(&mut self, request: Request) {
         if self.count == MOST_REQUESTS {
             self.list.rotate_left(1);
             self.count -= 1;

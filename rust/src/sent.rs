@@ -142,7 +142,7 @@ impl<'a> SentPacketsOver<Borrowed<'a>> {
 
 impl<M: Memory> SentPacketsOver<M> {
     /// Registers the number of a packet, just before it is sent: a report on a number that is not
-    /// registered is passed over. A number up to 32,767 ahead of H becomes the new H, as with the
+    /// registered is ignored. A number up to 32,767 ahead of H becomes the new H, as with the
     /// arrivals of a [store](crate::StoreOver::arrive). Registering a number again changes nothing
     /// while it is in the window.
     ///
@@ -165,11 +165,11 @@ impl<M: Memory> SentPacketsOver<M> {
 
     /// Takes in a feedback packet, a CCFB packet by itself; [`Datagram`](crate::Datagram) finds
     /// those of a datagram. Packets may be lost, come twice or in another order: "missing" never
-    /// replaces "received", and another "received" does. So the packet that is taken in last decides
-    /// mark and time, even if it is the older one.
+    /// replaces "received", and another "received" does. So the packet that is taken in last
+    /// decides mark and time, even if it is the older one.
     ///
     /// What the packet says of other streams, and of numbers that are not registered or no longer
-    /// in the window, is passed over.
+    /// in the window, is ignored.
     ///
     /// # Errors
     ///

@@ -31,30 +31,38 @@ pub type Store<const PLACES: usize> = StoreOver<Owned<PLACES>>;
 /// What is in the memory is kept, and zeroed memory is a fresh store. So the store may be made
 /// anew for each use, at the cost of a look at the two lengths.
 ///
-/// In static memory:
+/// In static memory, with the reporter under the same lock:
 ///
 /// ```
-/// use ccfb::{ArrivalKind, Mark, Refusal, StoreIn, Time, CELLS_OF_A_PLACE};
+/// use ccfb::{Mark, Refusal, Reporter, StoreIn, Time, CELLS_OF_A_PLACE};
 /// use std::sync::Mutex;
 ///
 /// const PLACES: usize = 4;
-/// struct Memory {
+/// struct Receiver {
 ///     places: [u64; PLACES],
 ///     cells: [u64; PLACES * CELLS_OF_A_PLACE],
+///     reporter: Reporter,
 /// }
-/// static MEMORY: Mutex<Memory> =
-///     Mutex::new(Memory { places: [0; PLACES], cells: [0; PLACES * CELLS_OF_A_PLACE] });
+/// static RECEIVER: Mutex<Receiver> = Mutex::new(Receiver {
+///     places: [0; PLACES],
+///     cells: [0; PLACES * CELLS_OF_A_PLACE],
+///     reporter: Reporter::new(16),
+/// });
 ///
-/// fn on_packet(ssrc: u32, number: u16, mark: Mark, time: Time) -> Result<ArrivalKind, Refusal> {
-///     let memory = &mut *MEMORY.lock().expect("no thread panics with the lock");
-///     StoreIn::new(&mut memory.places, &mut memory.cells)?.arrive(ssrc, number, mark, time)
+/// fn on_packet(ssrc: u32, number: u16, mark: Mark, time: Time) -> Result<(), Refusal> {
+///     let receiver = &mut *RECEIVER.lock().expect("no thread panics with the lock");
+///     let mut store = StoreIn::new(&mut receiver.places, &mut receiver.cells)?;
+///     let kind = store.arrive(ssrc, number, mark, time)?;
+///     receiver.reporter.arrived(ssrc, number, kind);
+///     Ok(())
 /// }
 ///
 /// on_packet(7, 100, Mark::Ect1, Time::At(1))?;
 /// on_packet(7, 101, Mark::Ect1, Time::At(2))?;
-/// let memory = &mut *MEMORY.lock().expect("no thread panics with the lock");
-/// let store = StoreIn::new(&mut memory.places, &mut memory.cells)?;
-/// assert_eq!(store.place(0)?.highest, 101);
+/// let receiver = &mut *RECEIVER.lock().expect("no thread panics with the lock");
+/// let store = StoreIn::new(&mut receiver.places, &mut receiver.cells)?;
+/// let requests = receiver.reporter.requests(store.streams());
+/// assert_eq!((requests[0].begin, requests[0].count), (100, 2));
 /// # Ok::<(), Refusal>(())
 /// ```
 ///
@@ -129,9 +137,9 @@ impl<'a> StoreOver<Borrowed<'a>> {
 }
 
 impl<M: Memory> StoreOver<M> {
-    /// Records an arrival, and says what it was: tell a [`Reporter`](crate::Reporter::arrived). A
-    /// copy keeps the first one's time and mark, except that the mark becomes [`Mark::Ce`] if any
-    /// copy carried it.
+    /// Records an arrival, and returns its kind; pass it to
+    /// [`Reporter::arrived`](crate::Reporter::arrived). A copy keeps the first one's time and
+    /// mark, except that the mark becomes [`Mark::Ce`] if any copy carried it.
     ///
     /// # Errors
     ///

@@ -6,15 +6,20 @@ use crate::{Request, CELLS_OF_A_PLACE};
 const WINDOW: u16 = CELLS_OF_A_PLACE as u16;
 
 /// A number that is this far behind another, or farther, counts as ahead of it.
-const AHEAD: u16 = 0x8000;
+const HALF_WAY_ROUND: u16 = 0x8000;
 
 /// A stream that a place holds.
 ///
-/// It makes the requests for a report. **Never report numbers from before the first arrival**:
-/// nobody knows whether they were sent, and the sender would take them for lost. A `Stream` does
-/// not know its first arrival, and its requests start at the oldest number that arrived, or later.
-/// A [`Reporter`](crate::Reporter) that is told of the arrivals knows it, and makes the requests
-/// for all streams.
+/// It makes requests for a report. [`all`](Stream::all) and [`newest`](Stream::newest) start at
+/// the oldest number that arrived, or later. So do [`since`](Stream::since) and
+/// [`since_with_overlap`](Stream::since_with_overlap), unless the window has moved past `last`:
+/// then they start at the lowest number of the window.
+///
+/// **Never report numbers from before the first arrival**: nobody knows whether they were sent,
+/// and the sender would take them for lost. A `Stream` knows the oldest number that arrived, and
+/// not the first. So `all`, `newest` and an overlap may reach back to a late packet from before
+/// the first arrival. Prefer a [`Reporter`](crate::Reporter) that is told of the arrivals: it
+/// makes the requests for all streams.
 ///
 /// ```
 /// use ccfb::{Request, Stream};
@@ -71,7 +76,7 @@ impl Stream {
     ///
     /// A `last` that is not of this history asks for [all](Stream::all): if it is ahead of H, or
     /// in the window while nothing up to it arrived. A stream that was forgotten and came back is
-    /// like that. So is one that has moved on by 32,768 numbers or more: report more often.
+    /// like that. So is one that has moved on by 32,768 to 65,535 numbers: report more often.
     ///
     /// ```
     /// use ccfb::{Request, Stream};
@@ -81,6 +86,10 @@ impl Stream {
     /// assert_eq!(stream.since(100), Request { ssrc: 7, begin: 100, count: 0 });
     /// assert_eq!(stream.since(80), stream.all());
     /// assert_eq!(stream.since(101), stream.all());
+    ///
+    /// // The window has moved past 1,000: the request starts at its lowest number.
+    /// let far_on = Stream { ssrc: 7, highest: 5_000, oldest: 4_990 };
+    /// assert_eq!(far_on.since(1_000), Request { ssrc: 7, begin: 2_953, count: 2_048 });
     /// ```
     pub fn since(self, last: u16) -> Request {
         self.since_with_overlap(last, 0)
@@ -89,8 +98,9 @@ impl Stream {
     /// As [`since`](Stream::since), with up to `overlap` numbers before those once more.
     ///
     /// A packet that arrives late, after its number was reported missing, is only told to the
-    /// sender if its number is reported again. So the overlap should be as long as packets are
-    /// reordered. It also helps where a report is lost. Each number costs 2 octets a report.
+    /// sender if its number is reported again. So the overlap should have more numbers than
+    /// packets are late by. It also helps where a report is lost. Each number costs 2 octets a
+    /// report.
     ///
     /// ```
     /// use ccfb::{Request, Stream};
@@ -99,6 +109,10 @@ impl Stream {
     /// assert_eq!(stream.since_with_overlap(96, 3), Request { ssrc: 7, begin: 94, count: 7 });
     /// assert_eq!(stream.since_with_overlap(96, 50), stream.all());
     /// assert_eq!(stream.since_with_overlap(100, 2), Request { ssrc: 7, begin: 99, count: 2 });
+    ///
+    /// // 100 was the first to arrive, and 97 came late: the overlap reaches back to it.
+    /// let stream = Stream { ssrc: 7, highest: 101, oldest: 97 };
+    /// assert_eq!(stream.since_with_overlap(100, 8), Request { ssrc: 7, begin: 97, count: 5 });
     /// ```
     pub fn since_with_overlap(self, last: u16, overlap: u16) -> Request {
         let known = self.known();
@@ -131,7 +145,8 @@ impl Stream {
     /// the oldest that arrived are lost.
     fn fresh(self, last: u16) -> Option<u16> {
         let fresh = self.highest.wrapping_sub(last);
-        let of_another_history = fresh >= AHEAD || (fresh < WINDOW && fresh >= self.known());
+        let is_ahead = fresh >= HALF_WAY_ROUND;
+        let of_another_history = is_ahead || (fresh < WINDOW && fresh >= self.known());
         (!of_another_history).then_some(fresh.min(WINDOW))
     }
 

@@ -99,6 +99,19 @@ fn after_it_was_forgotten_a_stream_is_new() -> Result<(), Refusal> {
 }
 
 #[test]
+fn after_it_was_forgotten_a_duplicate_from_before_is_no_copy() -> Result<(), Refusal> {
+    let mut store = Store::<1>::new();
+    for number in [100, 101] {
+        store.arrive(7, number, Mark::Ect1, Time::Unknown)?;
+    }
+    store.forget(7)?;
+    for (number, answer) in [(101, FIRST), (100, LATE), (100, COPY)] {
+        assert_eq!(store.arrive(7, number, Mark::Ect1, Time::Unknown), answer);
+    }
+    Ok(())
+}
+
+#[test]
 fn a_refused_arrival_leaves_the_next_as_it_was() {
     check(&[(100, FIRST), (50_000, TOO_OLD), (50_000, TOO_OLD), (101, ahead(0)), (103, ahead(1))]);
     let mut store = Store::<1>::new();

@@ -16,6 +16,9 @@ const STREAMS: u64 = 5;
 const MOST_AHEAD: u64 = 32_767;
 const TOO_OLD: u64 = 2_048;
 
+/// The answers that [`name_of`] tells apart: five of accepted arrivals, and two refusals.
+const ANSWERS: usize = 7;
+
 /// Full numbers start here, so that none behind them is negative.
 const START: u64 = 1 << 20;
 
@@ -108,7 +111,7 @@ fn random_arrivals() -> Result<(), Refusal> {
         most_passed_over = answer.map_or(0, ArrivalKind::passed_over).max(most_passed_over);
         *seen.entry(name_of(answer)).or_default() += 1;
     }
-    assert_eq!(seen.len(), 7, "{seen:?}");
+    assert_eq!(seen.len(), ANSWERS, "{seen:?}");
     assert!(seen.values().all(|times| *times > 100), "{seen:?}");
     assert_eq!(most_passed_over, ccfb::MOST_PASSED_OVER);
     Ok(())

@@ -65,13 +65,18 @@ fn one_arrival_is_reported_as_one_number() {
 }
 
 #[test]
-fn nothing_new_is_an_empty_block() {
+fn nothing_new_is_an_empty_block_which_changes_nothing() {
     let stream = Stream { ssrc: 7, highest: 100, oldest: 90 };
     let mut reporter = Reporter::new(0);
     let requests = reporter.requests([stream]);
     reporter.reported(&requests);
-    let requests = reporter.requests([stream]);
-    assert_eq!((requests.len(), requests[0].begin, requests[0].count), (1, 100, 0));
+    for _ in 0..2 {
+        let requests = reporter.requests([stream]);
+        assert_eq!((requests.len(), requests[0].begin, requests[0].count), (1, 100, 0));
+        reporter.reported(&requests);
+    }
+    let requests = reporter.requests([Stream { highest: 102, ..stream }]);
+    assert_eq!((requests[0].begin, requests[0].count), (101, 2));
 }
 
 #[test]
@@ -123,6 +128,8 @@ fn a_start_that_the_window_has_moved_past_is_its_lowest_number() -> Result<(), R
     // 32,768 numbers are new: the oldest that arrived.
     assert_eq!(first_report(&[100, 97, 32_867])?, (32_867, 1));
     assert_eq!(first_report(&[100, 30_000, 60_000, 60_002])?, (60_000, 3));
+    // 65,536 look like none.
+    assert_eq!(first_report(&[100, 32_867, 98, 99])?, (99, 0));
     Ok(())
 }
 

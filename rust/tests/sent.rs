@@ -110,7 +110,7 @@ fn of_two_blocks_the_last_received_counts() -> Result<(), Refusal> {
 
 /// A number shares its cell with the one 2,048 before it, and with the one after.
 #[test]
-fn what_is_not_registered_in_the_window_is_passed_over() -> Result<(), Refusal> {
+fn what_is_not_registered_in_the_window_is_ignored() -> Result<(), Refusal> {
     let mut memory = Memory::with(&[5_000, 5_002]);
     let before = memory.cells;
     for number in [2_952, 2_954, 4_999, 5_001, 5_003, 7_048, 7_050, 37_770] {

@@ -19,6 +19,10 @@ pub fn inspect(
         if line.is_empty() {
             continue;
         }
+        if let Some(said) = said_by_ccfbline(line) {
+            writeln!(output, "line {number}: ccfbline {said}")?;
+            continue;
+        }
         let mut octets = Vec::new();
         match read(line, &mut octets) {
             Ok(datagram) => {
@@ -30,21 +34,20 @@ pub fn inspect(
                 writeln!(output, "line {number}: {}", datagram::readable(&datagram))?;
                 accepted.for_each(|packet| take(&packet));
             }
-            Err(said) => writeln!(output, "line {number}: {said}")?,
+            Err(wrong) => writeln!(output, "line {number}: {wrong}")?,
         }
     }
     output.flush()
 }
 
-/// The datagram of a line, read from its octets. The error says in words why there is none, or
-/// what `ccfbline` says in the line.
+/// What `ccfbline` says in a line `refused N` or `gap N`, in words.
+fn said_by_ccfbline(line: &[u8]) -> Option<String> {
+    let refused = refused_file(line).map(|refusal| refusal.to_string());
+    refused.or_else(|| gap(line).map(|gap| format!("gap {gap}: {}", passed_over(gap))))
+}
+
+/// The datagram of a line, read from its octets. The error says in words why there is none.
 fn read<'a>(line: &[u8], octets: &'a mut Vec<u8>) -> Result<Datagram<'a>, String> {
-    if let Some(refusal) = refused_file(line) {
-        return Err(format!("ccfbline {refusal}"));
-    }
-    if let Some(gap) = gap(line) {
-        return Err(format!("ccfbline gap {gap}: {}", passed_over(gap)));
-    }
     *octets = hex::octets(line).map_err(|fault| format!("not hex: {fault}"))?;
     Datagram::read(octets).map_err(|refusal| {
         let fault = walk::fault(octets).map_or(String::new(), |fault| format!("\n  {fault}"));
@@ -57,7 +60,7 @@ fn refused_file(line: &[u8]) -> Option<Refusal> {
     Refusal::of_number(number_after(b"refused ", line)?)
 }
 
-/// The count in the line `gap N`, which `ccfbline` prints after the packet.
+/// The count in the line `gap N`, which `ccfbline` prints after the packets.
 fn gap(line: &[u8]) -> Option<u16> {
     number_after(b"gap ", line).filter(|gap| *gap <= MOST_PASSED_OVER)
 }
