@@ -61,8 +61,8 @@ def texts(ending):
 
 
 def snake(name):
-    head = re.sub(r"(?<=[a-z0-9])([A-Z])", lambda m: "_" + m[0].lower(), name)
-    return head.replace("-", "_").replace("′", "'")
+    words = re.sub(r"(?<=[a-z0-9])(?=[A-Z])|(?<=[A-Z])(?=[A-Z][a-z])", "_", name)
+    return words.lower().replace("-", "_").replace("′", "'")
 
 
 def is_ours(name):

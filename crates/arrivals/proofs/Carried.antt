@@ -10,7 +10,7 @@ use Rattle.lists.specs.declared.Found.{Found}
 use Rattle.metric.specs.Metric.{congested}
 use Rattle.metric.specs.declared.Cell.{Cell}
 use Rattle.metric.specs.declared.Time.{Time}
-use Rattle.ring.specs.Ring.{cells_of_aPlace}
+use Rattle.ring.specs.Ring.{cells_of_a_place}
 use Rattle.window.specs.Number.{move_of}
 use Rattle.window.specs.declared.Move.{Move}
 use Rattle.places.specs.Place.{highest_at, find_of, free_of}
@@ -82,7 +82,7 @@ module _ (places cells : List ℕ) (ssrc number mark : ℕ) (time : Time) where
     new_is (At p) e =
         rw (kind_new places cells number)
         (moved_opened _ _ (word_after mark time) (filled_word mark time) (after_empty 0 mark time (omega arith)) places cells p ssrc number
-        (ready_free places cells p s e) cells_of_aPlace (omega arith) (omega arith))
+        (ready_free places cells p s e) cells_of_a_place (omega arith) (omega arith))
     new_is Nothing e = refl
 
     found_is : (f : Found) → find_of places ssrc ≡ f → After (decided_at f places cells number) ≡ arrived_at f places cells ssrc number mark time

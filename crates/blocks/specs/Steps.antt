@@ -2,7 +2,7 @@
 -- for a caller needs these.
 use Rattle.std.specs.Prelude.{◌≡◌, List, [], ◌∷◌, map, ℕ, ◌+◌, ◌-◌, ◌*◌, ◌≤◌, ◌<◌, length, drop, get_or}
 use Rattle.std.proofs.lemmas.List.Edits.{sets}
-use Rattle.ring.specs.Ring.{cells_of_aPlace}
+use Rattle.ring.specs.Ring.{cells_of_a_place}
 use Rattle.cell_metrics.specs.Metrics.{cell_metric}
 use Rattle.packet.specs.Packet.{encode_blocks, encode_packet}
 use Rattle.packet.specs.Sizes.{blocks_octets, packet_frame, packet_octets, packet_header_octets}
@@ -48,7 +48,7 @@ pub record Prepared (limit n : ℕ) (cells found : List ℕ) : Type 0 where
   pub least : least_limit ≤ limit
   pub most : limit ≤ most_limit
   pub few : n ≤ most_requests
-  pub held : (i : ℕ) → i < n → cells_of_aPlace * get_or found i 0 + cells_of_aPlace ≤ length cells
+  pub held : (i : ℕ) → i < n → cells_of_a_place * get_or found i 0 + cells_of_a_place ≤ length cells
 
 -- the blocks of the packet f were written, the first one at octet 8
 pub record PutBlocks (metric : ℕ → ℕ → ℕ) (rs : List Request) (f : Filled) (entry exit : List ℕ) (r : Progress) : Type 0 where

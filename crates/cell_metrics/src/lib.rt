@@ -1,7 +1,7 @@
 // The metric of a cell at RTS: of its word, and by its place and number.
 ghost use Rattle.std.specs.Prelude.{◌≡◌, ◌+◌, ◌*◌, ◌≤◌, length};
 ghost use Rattle.metric.specs.Metric.{encode_of};
-ghost use Rattle.ring.specs.Ring.{cells_of_aPlace};
+ghost use Rattle.ring.specs.Ring.{cells_of_a_place};
 ghost use Rattle.cells.specs.Cell.{read_cell};
 ghost use Rattle.cell_metrics.specs.Metrics.{cell_metric};
 
@@ -23,7 +23,7 @@ pub fn metric_of_word(word: u64, rts: u32) -> u16
 
 // The metric of a number of the window of the place p.
 pub fn cell_metric(cells: &[u64], rts: u32, p: usize, number: u16) -> u16
-    requires room { cells_of_aPlace * p + cells_of_aPlace ≤ length cells.now }
+    requires room { cells_of_a_place * p + cells_of_a_place ≤ length cells.now }
     ensures value { result ≡ cell_metric cells.now rts p number }
 {
     let at = place_window::cell_index(p, number);

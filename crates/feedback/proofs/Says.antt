@@ -15,7 +15,7 @@ use Rattle.lists.proofs.Cases.{never, split_le}
 use Rattle.metric.specs.Metric.{age_of, longest_age, offset_unit, after_rts, congested, seen_at_age, seen_of}
 use Rattle.metric.specs.declared.Time.{Time}
 use Rattle.metric.specs.declared.Metric.{Metric}
-use Rattle.history.specs.Meaning.{Entry, copies_of, any_cE, cell_of, cell_by, EntryInRange}
+use Rattle.history.specs.Meaning.{Entry, copies_of, any_ce, cell_of, cell_by, EntryInRange}
 use Rattle.history.proofs.Copies.{copies_have, copies_are}
 use Rattle.history.proofs.Filled.{any_is, any_not}
 use Rattle.feedback.specs.Reported.{NoneHad, First, CarriedCE, MarkOf, carried, firsts, Says, missing, received, long_ago, afterwards, untimed}
@@ -69,32 +69,32 @@ module _ (n : ℕ) where
   first_copies es e f = (copies_of f.after n, ap (λ (l : List Entry). copies_of l n) f.order ∙ copies_past f.before f.after e f.earlier f.full)
 
 -- ---- the mark
-any_was : (cs : List Entry) → any_cE cs ≡ true → (d : Entry) × (Memᴰ d cs × (d.mark ≡ congested))
+any_was : (cs : List Entry) → any_ce cs ≡ true → (d : Entry) × (Memᴰ d cs × (d.mark ≡ congested))
 any_was [] t = absurd (false≢true t)
 any_was (c ∷ cs) t = by_test (eqb c.mark congested) refl (λ r. any_was cs r) t
   where
-    by_test : (b : Bool) → eqb c.mark congested ≡ b → (any_cE cs ≡ true → (d : Entry) × (Memᴰ d cs × (d.mark ≡ congested)))
-        → (b || any_cE cs) ≡ true → (d : Entry) × (Memᴰ d (c ∷ cs) × (d.mark ≡ congested))
+    by_test : (b : Bool) → eqb c.mark congested ≡ b → (any_ce cs ≡ true → (d : Entry) × (Memᴰ d cs × (d.mark ≡ congested)))
+        → (b || any_ce cs) ≡ true → (d : Entry) × (Memᴰ d (c ∷ cs) × (d.mark ≡ congested))
     by_test true e rec t = (c, (Memᴰ.head refl, eqb-true c.mark congested e))
     by_test false e rec t = let r = rec t in (r.0, (Memᴰ.tail r.1.0, r.1.1))
 
 module _ (es : List Entry) (n : ℕ) (e : Entry) (rest : List Entry) (q : copies_of es n ≡ e ∷ rest) where
-  carried_copy : (d : Entry) → CarriedCE es n d → any_cE (e ∷ rest) ≡ true
+  carried_copy : (d : Entry) → CarriedCE es n d → any_ce (e ∷ rest) ≡ true
   carried_copy d c = any_is (e ∷ rest) d (rw q at (copies_have n es d c.accepted c.full)) c.mark
 
   copy_carried : (d : Entry) → Memᴰ d (e ∷ rest) → d.mark ≡ congested → CarriedCE es n d
   copy_carried d m k = let a = copies_are n es d (rw q m) in record { accepted = a.0; full = a.1; mark = k }
 
   -- the mark of the cell is the one that the rules say
-  marked : MarkOf es n e (cond (any_cE (e ∷ rest)) congested e.mark)
-  marked = by_test (any_cE (e ∷ rest)) refl
+  marked : MarkOf es n e (cond (any_ce (e ∷ rest)) congested e.mark)
+  marked = by_test (any_ce (e ∷ rest)) refl
     where
-      by_test : (b : Bool) → any_cE (e ∷ rest) ≡ b → MarkOf es n e (cond b congested e.mark)
+      by_test : (b : Bool) → any_ce (e ∷ rest) ≡ b → MarkOf es n e (cond b congested e.mark)
       by_test true t = let d = any_was (e ∷ rest) t in carried d.0 (copy_carried d.0 d.1.0 d.1.1)
       by_test false t = firsts (λ d c. true≢false (sym (carried_copy d c) ∙ t))
 
   -- and no other
-  mark_is : (mark : ℕ) → MarkOf es n e mark → cond (any_cE (e ∷ rest)) congested e.mark ≡ mark
+  mark_is : (mark : ℕ) → MarkOf es n e mark → cond (any_ce (e ∷ rest)) congested e.mark ≡ mark
   mark_is mark (carried d c) = rw (carried_copy d c)
   mark_is mark (firsts none) = rw (any_not (e ∷ rest) (λ d m k. none d (copy_carried d m k)))
 
@@ -141,8 +141,8 @@ module _ (es : List Entry) (n rts : ℕ) where
         by_copies (e ∷ rest) q =
             let f = copies_first n es e rest q in
             let k = marked es n e rest q in
-            at_cell e (cond (any_cE (e ∷ rest)) congested e.mark) f k e.time refl
-            (mark_low e (cond (any_cE (e ∷ rest)) congested e.mark) f k)
+            at_cell e (cond (any_ce (e ∷ rest)) congested e.mark) f k e.time refl
+            (mark_low e (cond (any_ce (e ∷ rest)) congested e.mark) f k)
 
     cell_said : (e : Entry) (mark : ℕ) (time : Time) → First es n e → MarkOf es n e mark → e.time ≡ time
         → (cell_by es n ≡ Filled mark time) × (mark % 4 ≡ mark)

@@ -9,7 +9,7 @@ use Rattle.lists.proofs.All.{all_map}
 use Rattle.metric.specs.Metric.{seen_of}
 use Rattle.metric.specs.declared.Cell.{Cell}
 use Rattle.window.specs.Number.{sequence_numbers, distance_of}
-use Rattle.ring.specs.Ring.{cells_of_aPlace}
+use Rattle.ring.specs.Ring.{cells_of_a_place}
 use Rattle.places.specs.Place.{find_of, place_at}
 use Rattle.places.specs.Held.{HeldAt}
 use Rattle.places.proofs.Held.{held_found}
@@ -65,7 +65,7 @@ module _ (st : Store) (new : Fresh st) (cs : List Call) (range : All CallInRange
           same : (a b : ℕ) → place_at places p ≡ Held ssrc a → place_at places p ≡ Held ssrc b → a ≡ b
           same a b e f = cc
 
-      told : (s : ℕ) → (s < sequence_numbers) × (distance_of (top_of (history ssrc) % sequence_numbers) s < cells_of_aPlace) → Told ssrc s
+      told : (s : ℕ) → (s < sequence_numbers) × (distance_of (top_of (history ssrc) % sequence_numbers) s < cells_of_a_place) → Told ssrc s
       told s (l, d) = record {
         small = l;
         full = full_number_lem (top_of (history ssrc)) s held.begun l d;

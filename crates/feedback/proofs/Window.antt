@@ -6,7 +6,7 @@ use native.Mathlib.Omega.{arith}
 use Rattle.lists.specs.All.{All}
 use Rattle.lists.proofs.Cases.{split_le}
 use Rattle.window.specs.Number.{distance_of}
-use Rattle.ring.specs.Ring.{cells_of_aPlace}
+use Rattle.ring.specs.Ring.{cells_of_a_place}
 use Rattle.place_window.specs.Window.{cell_at}
 use Rattle.places.specs.declared.Holding.{Holding}
 use Rattle.cells.specs.Cell.{read_cell}
@@ -17,7 +17,7 @@ use Rattle.cutting.specs.Cutting.{following, numbers_from}
 use Rattle.feedback.specs.Seen.{full_number, StandsFor}
 use lib.ListN.{get_or}
 
-full_at : (top s n k d : ℕ) → s < 65536 → n ≡ top - d → d < cells_of_aPlace → d ≤ top → n ≡ 65536 * k + s → StandsFor top s n
+full_at : (top s n k d : ℕ) → s < 65536 → n ≡ top - d → d < cells_of_a_place → d ≤ top → n ≡ 65536 * k + s → StandsFor top s n
 full_at top s n k d small e near within at = record {
   most = omega arith;
   least = omega arith;
@@ -26,7 +26,7 @@ full_at top s n k d small e near within at = record {
 }
 
 -- the number is one of the window, and stands for its full number there
-pub full_number_lem : (top s : ℕ) → 65536 ≤ top → s < 65536 → distance_of (top % 65536) s < cells_of_aPlace → StandsFor top s (full_number top s)
+pub full_number_lem : (top s : ℕ) → 65536 ≤ top → s < 65536 → distance_of (top % 65536) s < cells_of_a_place → StandsFor top s (full_number top s)
 full_number_lem top s big small near = by_parts (top / 65536) (top % 65536) refl (omega arith) (omega arith) (omega arith)
   where
     by_parts : (q t : ℕ) → top % 65536 ≡ t → top ≡ 65536 * q + t → t < 65536 → 0 < q → StandsFor top s (full_number top s)
@@ -39,10 +39,10 @@ full_number_lem top s big small near = by_parts (top / 65536) (top % 65536) refl
 
 -- the cell of a number of the window reads as the entries of its full number say
 pub cell_in_window : (cells : List ℕ) (p : ℕ) (h : Holding) (ssrc top : ℕ) (es : List Entry) (s : ℕ) → Holds cells p h ssrc top es
-    → s < 65536 → distance_of (top % 65536) s < cells_of_aPlace → read_cell (cell_at cells p s) ≡ cell_by es (full_number top s)
+    → s < 65536 → distance_of (top % 65536) s < cells_of_a_place → read_cell (cell_at cells p s) ≡ cell_by es (full_number top s)
 cell_in_window cells p h ssrc top es s held small near =
     let f : StandsFor top s (full_number top s) = full_number_lem top s held.begun small near in
-    ap (λ (m : ℕ). read_cell (get_or cells (cells_of_aPlace * p + m) 0)) (sym (same_slot (full_number top s) s f.low)) ∙ held.window (full_number top s) f.most f.least
+    ap (λ (m : ℕ). read_cell (get_or cells (cells_of_a_place * p + m) 0)) (sym (same_slot (full_number top s) s f.low)) ∙ held.window (full_number top s) f.most f.least
 
 -- ---- ranges in a window
 
@@ -54,8 +54,8 @@ closer highest s h b far =
 
 -- the numbers of a range in the window are numbers of the window
 pub range_in_window : (highest begin count : ℕ) → highest < 65536 → begin < 65536
-    → distance_of highest begin < cells_of_aPlace → count ≤ distance_of highest begin + 1
-    → All (λ (s : ℕ). (s < 65536) × (distance_of highest s < cells_of_aPlace)) (numbers_from begin count)
+    → distance_of highest begin < cells_of_a_place → count ≤ distance_of highest begin + 1
+    → All (λ (s : ℕ). (s < 65536) × (distance_of highest s < cells_of_a_place)) (numbers_from begin count)
 range_in_window highest begin zero h b near fits = tt
 range_in_window highest begin (suc zero) h b near fits = ((b, near), tt)
 range_in_window highest begin (suc (suc k)) h b near fits =

@@ -5,7 +5,7 @@ use Rattle.lists.specs.All.{All}
 use Rattle.metric.specs.Metric.{seen_of}
 use Rattle.metric.specs.declared.Metric.{Metric}
 use Rattle.window.specs.Number.{sequence_numbers, distance_of}
-use Rattle.ring.specs.Ring.{cells_of_aPlace}
+use Rattle.ring.specs.Ring.{cells_of_a_place}
 use Rattle.streams.specs.Reading.{Store}
 use Rattle.history.specs.Calls.{Call, store_run, store_answers, Accepted, accepted_of}
 use Rattle.history.specs.Meaning.{top_of, entries_of, cell_by, AsArrivals}
@@ -25,10 +25,10 @@ full_number top s = top - distance_of (top % sequence_numbers) s
 -- the full number n is one of the window that ends with top, and its low 16 bits are s
 pub record StandsFor (top s n : ℕ) : Type 0 where
   pub most : n ≤ top
-  pub least : top < n + cells_of_aPlace
+  pub least : top < n + cells_of_a_place
   pub low : n % sequence_numbers ≡ s
   -- no other number of the window has these 16 bits
-  pub only : (m : ℕ) → m ≤ top → top < m + cells_of_aPlace → m % sequence_numbers ≡ s → m ≡ n
+  pub only : (m : ℕ) → m ≤ top → top < m + cells_of_a_place → m % sequence_numbers ≡ s → m ≡ n
 
 -- the case of number s at RTS: not received; or received with the first copy's offset, over range or without
 -- a time. The mark is ECN-CE if any copy of that full number carried it, else the first copy's

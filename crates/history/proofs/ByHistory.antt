@@ -41,7 +41,7 @@ use Rattle.history.proofs.Heard.{place_by, Kept, run_kept, last_forgotten, vacan
 use Rattle.history.proofs.Numbers.{top_of_numbers, fulls_of_numbers}
 use Rattle.metric.specs.Metric.{congested, TimeInRange}
 use Rattle.window.specs.Number.{sequence_numbers}
-use Rattle.ring.specs.Ring.{cells_of_aPlace}
+use Rattle.ring.specs.Ring.{cells_of_a_place}
 use Rattle.lists.specs.declared.Found.TheVariants.{At, Nothing}
 use Rattle.places.specs.declared.Holding.TheVariants.{Held}
 
@@ -186,7 +186,7 @@ module _ (st : Store) (new : Fresh st) (cs : List Call) (range : All CallInRange
       pub held_by_history : HeldAt (store_run st cs).places ssrc p (top_of (history ssrc) % sequence_numbers)
       held_by_history = record { holds = by_history.place; first = (found_held (store_run st cs).places ssrc p found).first }
 
-      pub cell_by_history : (n : ℕ) → n ≤ top_of (history ssrc) → top_of (history ssrc) < n + cells_of_aPlace
+      pub cell_by_history : (n : ℕ) → n ≤ top_of (history ssrc) → top_of (history ssrc) < n + cells_of_a_place
           → AsArrivals (read_cell (cell_at (store_run st cs).cells p n)) (entries_of (history ssrc)) n
       cell_by_history n a b = rw (by_history.window n a b) (as_arrivals (entries_of (history ssrc)) n)
 
@@ -202,8 +202,8 @@ module _ (st : Store) (new : Fresh st) (cs : List Call) (range : All CallInRange
 
 -- ---- a stream by itself
 -- each slot of the ring is that of one number of the window
-slot_number : (top s : ℕ) → cells_of_aPlace ≤ top → (n : ℕ) × ((n ≤ top) × ((top < n + cells_of_aPlace) × (n % cells_of_aPlace ≡ s % cells_of_aPlace)))
-slot_number top s g = (top - (top + cells_of_aPlace - s % cells_of_aPlace) % cells_of_aPlace, (omega arith, (omega arith, omega arith)))
+slot_number : (top s : ℕ) → cells_of_a_place ≤ top → (n : ℕ) × ((n ≤ top) × ((top < n + cells_of_a_place) × (n % cells_of_a_place ≡ s % cells_of_a_place)))
+slot_number top s g = (top - (top + cells_of_a_place - s % cells_of_a_place) % cells_of_a_place, (omega arith, (omega arith, omega arith)))
 
 module _ (st st' : Store) (new : Fresh st) (new' : Fresh st') (cs cs' : List Call) (range : All CallInRange cs) (range' : All CallInRange cs')
     (ssrc : ℕ) (same : accepted_of ssrc cs (store_answers st cs) ≡ accepted_of ssrc cs' (store_answers st' cs')) where

@@ -11,7 +11,7 @@ use Rattle.lists.specs.All.{All}
 use Rattle.metric.specs.declared.Time.{Time}
 use Rattle.metric.specs.declared.Cell.{Cell}
 use Rattle.cells.specs.Cell.{folded_mark}
-use Rattle.history.specs.Meaning.{Entry, copies_of, any_cE, cell_of, cell_by}
+use Rattle.history.specs.Meaning.{Entry, copies_of, any_ce, cell_of, cell_by}
 use Rattle.metric.specs.Metric.{congested}
 use Rattle.metric.specs.declared.Cell.TheVariants.{Empty, Filled}
 
@@ -24,7 +24,7 @@ or_assoc : (a b c : Bool) → (a || (b || c)) ≡ ((a || b) || c)
 or_assoc true b c = refl
 or_assoc false b c = refl
 
-any_append : (cs : List Entry) (e : Entry) → any_cE (cs ++ (e ∷ [])) ≡ (any_cE cs || eqb e.mark congested)
+any_append : (cs : List Entry) (e : Entry) → any_ce (cs ++ (e ∷ [])) ≡ (any_ce cs || eqb e.mark congested)
 any_append [] e = last (eqb e.mark congested)
   where
     last : (b : Bool) → (b || false) ≡ b
@@ -45,7 +45,7 @@ pub cell_append : (cs : List Entry) (e : Entry) → cell_of (cs ++ (e ∷ [])) �
 cell_append [] e = rw (mark_first e.mark)
 cell_append (c ∷ cs) e =
     ap (λ (m : ℕ). Filled m c.time)
-    (ap (λ (b : Bool). cond b congested c.mark) (any_append (c ∷ cs) e) ∙ mark_fold (any_cE (c ∷ cs)) c.mark e.mark)
+    (ap (λ (b : Bool). cond b congested c.mark) (any_append (c ∷ cs) e) ∙ mark_fold (any_ce (c ∷ cs)) c.mark e.mark)
 
 module _ (e : Entry) (n : ℕ) where
   copies_same : e.full ≡ n → (es : List Entry) → copies_of (es ++ (e ∷ [])) n ≡ copies_of es n ++ (e ∷ [])

@@ -9,26 +9,26 @@ use borrow.Author.Tests.{eq-eqb, ne_eqb}
 use lib.Dec.{eqb}
 use Rattle.lists.proofs.Cases.{never}
 use Rattle.metric.specs.declared.Time.{Time}
-use Rattle.history.specs.Meaning.{Entry, copies_of, any_cE, cell_of, cell_by, AsArrivals}
+use Rattle.history.specs.Meaning.{Entry, copies_of, any_ce, cell_of, cell_by, AsArrivals}
 use Rattle.history.proofs.Copies.{copies_have, copies_are}
 use Rattle.metric.specs.Metric.{congested}
 use Rattle.metric.specs.declared.Cell.TheVariants.{Empty, Filled}
 
 -- some copy carried ECN-CE
-pub any_is : (cs : List Entry) (e : Entry) → Memᴰ e cs → e.mark ≡ congested → any_cE cs ≡ true
+pub any_is : (cs : List Entry) (e : Entry) → Memᴰ e cs → e.mark ≡ congested → any_ce cs ≡ true
 any_is [] e m q = absurd (Memᴰ.not-nil m)
 any_is (c ∷ cs) e m q = ⊎_elim (λ h. here h) (λ h. there (eqb c.mark congested) (any_is cs e h q)) (Memᴰ.cases_cons m)
   where
-    here : e ≡ c → (eqb c.mark congested || any_cE cs) ≡ true
+    here : e ≡ c → (eqb c.mark congested || any_ce cs) ≡ true
     here h =
         let g : c.mark ≡ congested = rw (← h) q in
         rw (eq-eqb c.mark congested g)
 
-    there : (b : Bool) → any_cE cs ≡ true → (b || any_cE cs) ≡ true
+    there : (b : Bool) → any_ce cs ≡ true → (b || any_ce cs) ≡ true
     there true t = refl
     there false t = t
 
-pub any_not : (cs : List Entry) → ((e : Entry) → Memᴰ e cs → e.mark ≡ congested → ⊥) → any_cE cs ≡ false
+pub any_not : (cs : List Entry) → ((e : Entry) → Memᴰ e cs → e.mark ≡ congested → ⊥) → any_ce cs ≡ false
 any_not [] h = refl
 any_not (c ∷ cs) h =
     rw (ne_eqb c.mark congested (h c (Memᴰ.head refl)))
@@ -42,7 +42,7 @@ module _ (mark : ℕ) (time : Time) where
 
   cell_time : (cs : List Entry) (e : Entry) (rest : List Entry) → cell_of cs ≡ Filled mark time → cs ≡ e ∷ rest → time ≡ e.time
   cell_time cs e rest h q =
-      let g : Filled (cond (any_cE (e ∷ rest)) congested e.mark) e.time ≡ Filled mark time = rw q at h in
+      let g : Filled (cond (any_ce (e ∷ rest)) congested e.mark) e.time ≡ Filled mark time = rw q at h in
       cc
 
   cell_ce : (cs : List Entry) (e : Entry) → cell_of cs ≡ Filled mark time → Memᴰ e cs → e.mark ≡ congested → mark ≡ congested
@@ -54,8 +54,8 @@ module _ (mark : ℕ) (time : Time) where
   cell_other : (cs : List Entry) (e : Entry) (rest : List Entry) → cell_of cs ≡ Filled mark time → cs ≡ e ∷ rest
       → ((d : Entry) → Memᴰ d cs → d.mark ≡ congested → ⊥) → mark ≡ e.mark
   cell_other cs e rest h q n =
-      let k : Filled (cond (any_cE (e ∷ rest)) congested e.mark) e.time ≡ Filled mark time = rw q at h in
-      let z : any_cE (e ∷ rest) ≡ false = any_not (e ∷ rest) (λ d m. n d (rw q m)) in
+      let k : Filled (cond (any_ce (e ∷ rest)) congested e.mark) e.time ≡ Filled mark time = rw q at h in
+      let z : any_ce (e ∷ rest) ≡ false = any_not (e ∷ rest) (λ d m. n d (rw q m)) in
       let g : Filled e.mark e.time ≡ Filled mark time = rw z at k in
       cc
 

@@ -8,7 +8,7 @@ use borrow.Author.Tests.{lt-ltb, le-ltb}
 use lib.ListN.{get_or, length}
 use Rattle.lists.specs.declared.Found.{Found}
 use Rattle.lists.proofs.First.{first_true}
-use Rattle.ring.specs.Ring.{cells_of_aPlace}
+use Rattle.ring.specs.Ring.{cells_of_a_place}
 use Rattle.window.specs.Number.{distance_of, farthest_ahead, sequence_numbers}
 use Rattle.places.specs.Place.{place_at, find_of}
 use Rattle.places.proofs.Held.{held_highest}
@@ -40,20 +40,20 @@ module _ (st : Store) (ps : List (Place Entry)) (R : Reads st ps) (entry : ℕ �
     -- the cell of the number is that of its full number
     cell_is : cell_at st.cells k number ≡ cell_at st.cells k (full_of top number)
     cell_is =
-        ap (λ (i : ℕ). get_or st.cells (cells_of_aPlace * k + i) 0)
+        ap (λ (i : ℕ). get_or st.cells (cells_of_a_place * k + i) 0)
         (sym (same_slot (full_of top number) number (full_low top number H.begun low)))
 
     store_kind_lem : kind_at (At k) st.places st.cells number ≡ later_kind ahead (read_cell (cell_at st.cells k number))
     store_kind_lem = rw (kind_later st.places st.cells k number, held_highest (get_or st.places k 0) ssrc (top % sequence_numbers) H.place)
 
-    behind_kind : (0 < ahead → farthest_ahead < ahead) → top < full_of top number + cells_of_aPlace
+    behind_kind : (0 < ahead → farthest_ahead < ahead) → top < full_of top number + cells_of_a_place
         → later_kind ahead (read_cell (cell_at st.cells k number)) ≡ kind_of_full top es (full_of top number)
     unfolding kind_of_full
     behind_kind d new =
         let full = full_behind top number H.begun low d in
         rw (is_behind ahead d, le-ltb top (full_of top number) (omega arith), cell_is, H.window (full_of top number) (omega arith) new)
 
-    same_kind : top < full_of top number + cells_of_aPlace → kind_at (At k) st.places st.cells number ≡ kind_of_full top es (full_of top number)
+    same_kind : top < full_of top number + cells_of_a_place → kind_at (At k) st.places st.cells number ≡ kind_of_full top es (full_of top number)
     unfolding kind_of_full
     same_kind new =
         store_kind_lem
@@ -84,12 +84,12 @@ module _ (st : Store) (ps : List (Place Entry)) (R : Reads st ps) (entry : ℕ �
     where
       named : (top : ℕ) × ((es : List Entry) × (at ps k ≡ stream ssrc top es)) → Same (At k)
       named (top, (es, held)) =
-          elim (dec_lt top (full_of top number + cells_of_aPlace)) [
+          elim (dec_lt top (full_of top number + cells_of_a_place)) [
             | yes new ↦
                 ap (λ (a : ArrivalKind). later_at (arrival.Accepted a) arrival.Refused entry ps k ssrc (full_of (highest_in (at ps k)) number))
                 (same_kind k top es held new ∙ ap (λ (P : Place Entry). model_kind P number) (sym held))
             | no old ↦
-                let gone : full_of (highest_in (at ps k)) number + cells_of_aPlace ≤ highest_in (at ps k) = rw held (omega arith) in
+                let gone : full_of (highest_in (at ps k)) number + cells_of_a_place ≤ highest_in (at ps k) = rw held (omega arith) in
                 later_old entry ps k ssrc (full_of (highest_in (at ps k)) number) _ _ gone
                 ∙ sym (later_old entry ps k ssrc (full_of (highest_in (at ps k)) number) _ _ gone)
           ]

@@ -11,7 +11,7 @@ use Rattle.lists.proofs.Cases.{never}
 use Rattle.refusal.specs.declared.Refusal.{Refusal}
 use Rattle.metric.specs.declared.Time.{Time}
 use Rattle.metric.specs.declared.Cell.{Cell}
-use Rattle.ring.specs.Ring.{cells_of_aPlace}
+use Rattle.ring.specs.Ring.{cells_of_a_place}
 use Rattle.window.specs.Number.{distance_of, farthest_ahead}
 use Rattle.places.specs.Place.{place_at, highest_at, find_of}
 use Rattle.places.specs.Shape.{Shaped}
@@ -51,7 +51,7 @@ not_old : (high number : ℕ) → (Old high number → ⊥) → (0 < distance_of
 not_old high number n d =
     record {
       not_ahead = d;
-      near = elim (dec_lt (distance_of high number) cells_of_aPlace) [ yes b ↦ b | no b ↦ absurd (n (record { not_ahead = d; below = omega arith })) ];
+      near = elim (dec_lt (distance_of high number) cells_of_a_place) [ yes b ↦ b | no b ↦ absurd (n (record { not_ahead = d; below = omega arith })) ];
     }
 
 ahead_not_old : (high number : ℕ) → 0 < distance_of number high → distance_of number high ≤ farthest_ahead → Old high number → ⊥

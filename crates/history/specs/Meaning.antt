@@ -41,15 +41,15 @@ unfoldable pub copies_of : List Entry → ℕ → List Entry
 copies_of [] n = []
 copies_of (e ∷ es) n = let rest = copies_of es n in cond (eqb e.full n) (e ∷ rest) rest
 
-abbrev pub any_cE : List Entry → Bool
-any_cE [] = false
-any_cE (e ∷ es) = eqb e.mark congested || any_cE es
+abbrev pub any_ce : List Entry → Bool
+any_ce [] = false
+any_ce (e ∷ es) = eqb e.mark congested || any_ce es
 
 -- rule "Filled", of the copies of a number: filled if there is one, with the first one's time, and
 -- ECN-CE if any carried it, else the first one's mark
 abbrev pub cell_of : List Entry → Cell
 cell_of [] = Empty
-cell_of (e ∷ es) = Filled (cond (any_cE (e ∷ es)) congested e.mark) e.time
+cell_of (e ∷ es) = Filled (cond (any_ce (e ∷ es)) congested e.mark) e.time
 
 -- what the entries say of the full number n
 abbrev pub cell_by : List Entry → ℕ → Cell

@@ -5,7 +5,7 @@ use Rattle.std.specs.Prelude.{ℕ, ◌-◌, ◌≤◌, ◌<◌, ◌≡◌, List,
 use Rattle.refusal.specs.declared.Refusal.TheVariants.{BadMark, NoFreePlace, TooOld, BadStore, NotHeld}
 use Rattle.metric.specs.declared.Time.{Time}
 use Rattle.metric.specs.declared.Cell.TheVariants.{Empty, Filled}
-use Rattle.ring.specs.Ring.{cells_of_aPlace}
+use Rattle.ring.specs.Ring.{cells_of_a_place}
 use Rattle.window.specs.Number.{distance_of, farthest_ahead}
 use Rattle.places.specs.Place.{place_at}
 use Rattle.places.specs.Shape.{Shaped, Misshapen}
@@ -28,7 +28,7 @@ use Rattle.store.specs.declared.PlaceAnswer.TheVariants as answer
 -- the number is not ahead of the highest, and less than 2,048 behind it
 pub record Recent (high number : ℕ) : Type 0 where
   pub not_ahead : 0 < distance_of number high → farthest_ahead < distance_of number high
-  pub near : distance_of high number < cells_of_aPlace
+  pub near : distance_of high number < cells_of_a_place
 
 -- an arrival: 4, 1; 3 if the stream is held, else 2. A refused one leaves the store as it was. An accepted one is
 -- answered with its kind

@@ -14,7 +14,7 @@ use Rattle.octets.specs.Output.{output_after}
 use Rattle.octets.specs.Octets.{Octets, octet_values}
 use Rattle.metric.specs.declared.Time.{Time}
 use Rattle.metric.specs.Metric.{congested}
-use Rattle.ring.specs.Ring.{cells_of_aPlace}
+use Rattle.ring.specs.Ring.{cells_of_a_place}
 use Rattle.places.specs.Place.{place_at}
 use Rattle.places.specs.Shape.{Shaped, Misshapen}
 use Rattle.places.specs.After.{StoreAfter}
@@ -63,7 +63,7 @@ runs [] x = refl
 runs (r ∷ rs) x = runs rs (after_record x r)
 
 fresh_store : Fresh (store_of fresh)
-fresh_store = zeroed_fresh line_places fresh_cells (omega arith) (omega arith) (length-replicate {A = ℕ} (line_places * cells_of_aPlace) 0)
+fresh_store = zeroed_fresh line_places fresh_cells (omega arith) (omega arith) (length-replicate {A = ℕ} (line_places * cells_of_a_place) 0)
 
 -- it is sound, and no SSRC is in two places
 pub record Reached (x : Recorded) : Type 0 where

@@ -9,7 +9,7 @@ use lib.ListN.{length, get_or, take, drop, length-take}
 use lib.Seq.{drop-cons, take-suc, drop-length, get_or-take}
 use Rattle.lists.proofs.First.{first_at}
 use Rattle.window.specs.Number.{distance_of, sequence_numbers}
-use Rattle.ring.specs.Ring.{cells_of_aPlace}
+use Rattle.ring.specs.Ring.{cells_of_a_place}
 use Rattle.places.specs.Place.{read_place, place_at, highest_at, is_stream, holds, find_of}
 use Rattle.places.specs.declared.Holding.{Holding}
 use Rattle.places.proofs.Held.{held_highest}
@@ -51,7 +51,7 @@ newest_in_window : (highest : ℕ) → highest < sequence_numbers → check.in_w
 unfolding check.in_window_of
 newest_in_window highest h =
     let d : distance_of highest (distance_of highest (newest_numbers - 1)) ≡ 3 = omega arith in
-    simp (d, lt-ltb 3 cells_of_aPlace (omega arith))
+    simp (d, lt-ltb 3 cells_of_a_place (omega arith))
 
 module _ (places : List ℕ) (once : (ssrc p q h g : ℕ) → place_at places p ≡ Held ssrc h → place_at places q ≡ Held ssrc g → p ≡ q) where
   -- another place holds another stream

@@ -4,7 +4,7 @@ use Rattle.std.specs.Prelude.{ℕ, ◌-◌, Bool, true, false, cond, List}
 use Rattle.lists.specs.First.{first_from}
 use Rattle.lists.specs.declared.Found.{Found}
 use Rattle.metric.specs.declared.Cell.{Cell}
-use Rattle.ring.specs.Ring.{cells_of_aPlace}
+use Rattle.ring.specs.Ring.{cells_of_a_place}
 use Rattle.window.specs.Number.{distance_of}
 use Rattle.places.specs.Place.{place_at}
 use Rattle.places.specs.Shape.{shaped}
@@ -21,7 +21,7 @@ use Rattle.oldest.specs.declared.OldestAnswer.TheVariants as answer
 -- the numbers of the window that ends with highest, in rising order: number i, from 0, is
 -- 2,047 - i behind highest
 abbrev pub window_number : ℕ → ℕ → ℕ
-window_number highest i = distance_of highest (cells_of_aPlace - 1 - i)
+window_number highest i = distance_of highest (cells_of_a_place - 1 - i)
 
 abbrev pub is_filled : Cell → Bool
 is_filled Empty = false
@@ -38,7 +38,7 @@ number_found highest Nothing = highest
 
 -- the first number of the window, in rising order, that arrived; highest where none did
 unfoldable pub oldest_in : List ℕ → ℕ → ℕ → ℕ
-oldest_in cells place highest = number_found highest (first_from (has_arrived cells place highest) 0 cells_of_aPlace)
+oldest_in cells place highest = number_found highest (first_from (has_arrived cells place highest) 0 cells_of_a_place)
 
 -- of the stream of place k: refusals 4, 5
 abbrev pub oldest_at : List ℕ → ℕ → Holding → OldestAnswer

@@ -1,7 +1,7 @@
 // The oldest sequence number of a stream's window that arrived: where a first report on the stream
 // begins.
 ghost use Rattle.std.specs.Prelude.{◌≡◌, ◌+◌, ◌*◌, ◌≤◌, ◌<◌, length};
-ghost use Rattle.ring.specs.Ring.{cells_of_aPlace};
+ghost use Rattle.ring.specs.Ring.{cells_of_a_place};
 ghost use Rattle.oldest.specs.Oldest.{window_number, oldest_in, oldest_of};
 ghost use Rattle.oldest.specs.Steps.{first_filled};
 
@@ -20,7 +20,7 @@ pub enum OldestAnswer {
 
 // Number i, from 0, of the window that ends with highest, in rising order.
 fn window_number(highest: u16, i: usize) -> u16
-    requires within { i < cells_of_aPlace }
+    requires within { i < cells_of_a_place }
     ensures value { result ≡ window_number highest i }
 {
     window::distance(highest, (CELLS_OF_A_PLACE - 1 - i) as u16)
@@ -45,7 +45,7 @@ fn first_filled(cells: &[u64], start: usize, count: usize) -> Found
 // where none did. The cells of the newer numbers, up to highest, stand at the front of the ring,
 // and those of the older ones behind them: two runs need no remainder for each cell.
 fn oldest_in(cells: &[u64], p: usize, highest: u16) -> u16
-    requires room { cells_of_aPlace * p + cells_of_aPlace ≤ length cells.now }
+    requires room { cells_of_a_place * p + cells_of_a_place ≤ length cells.now }
     ensures value { result ≡ oldest_in cells.now p highest }
 {
     let base = CELLS_OF_A_PLACE * p;

@@ -9,7 +9,7 @@ use Rattle.lists.specs.All.{All}
 use Rattle.lists.proofs.All.{all_member}
 use Rattle.lists.proofs.Cases.{split_le}
 use Rattle.refusal.specs.declared.Refusal.{Refusal}
-use Rattle.ring.specs.Ring.{cells_of_aPlace}
+use Rattle.ring.specs.Ring.{cells_of_a_place}
 use Rattle.window.specs.Number.{distance_of, sequence_numbers}
 use Rattle.places.specs.Place.{place_at, find_of}
 use Rattle.places.specs.Held.{HeldAt}
@@ -51,19 +51,19 @@ module _ (cells : List ℕ) (p : ℕ) (h : Holding) (ssrc : ℕ) (past : List Ac
   highest = top_of past % sequence_numbers
 
   -- the number b behind the highest stands for the full number b below the highest one
-  stands : (b : ℕ) → b < cells_of_aPlace → StandsFor top (distance_of highest b) (top - b)
+  stands : (b : ℕ) → b < cells_of_a_place → StandsFor top (distance_of highest b) (top - b)
   stands b l =
       let g = held.begun in
       let e = distance_back highest b (omega arith) (omega arith) in
       rw e at (full_number_lem top (distance_of highest b) held.begun (omega arith) (rw e l))
 
-  cell_reads : (b : ℕ) → b < cells_of_aPlace → read_cell (cell_at cells p (distance_of highest b)) ≡ cell_by (entries_of past) (top - b)
+  cell_reads : (b : ℕ) → b < cells_of_a_place → read_cell (cell_at cells p (distance_of highest b)) ≡ cell_by (entries_of past) (top - b)
   cell_reads b l =
       let e = distance_back highest b (omega arith) (omega arith) in
       rw e at (cell_in_window cells p h ssrc top (entries_of past) (distance_of highest b) held (omega arith) (rw e l))
 
   -- no accepted arrival had the full number of an empty cell
-  none_had : (b : ℕ) → b < cells_of_aPlace → NotArrived cells p highest b → (e : Entry) → Memᴰ e (entries_of past) → e.full ≡ top - b → ⊥
+  none_had : (b : ℕ) → b < cells_of_a_place → NotArrived cells p highest b → (e : Entry) → Memᴰ e (entries_of past) → e.full ≡ top - b → ⊥
   none_had b l n e m q = (as_arrivals (entries_of past) (top - b)).filled e m q (sym (cell_reads b l) ∙ n)
 
   oldest_had : (s : ℕ) → OldestIs cells p highest s → OldestArrived past s

@@ -13,7 +13,7 @@ use Rattle.lists.proofs.Cases.{split_le}
 use Rattle.lists.proofs.First.{first_below, first_true, first_false, first_before, first_at, first_nothing}
 use Rattle.metric.specs.declared.Time.{Time}
 use Rattle.metric.specs.declared.Cell.{Cell}
-use Rattle.ring.specs.Ring.{cells_of_aPlace}
+use Rattle.ring.specs.Ring.{cells_of_a_place}
 use Rattle.window.specs.Number.{distance_of, sequence_numbers}
 use Rattle.places.specs.Place.{place_at}
 use Rattle.places.specs.Shape.{Shaped}
@@ -50,44 +50,44 @@ distance_back highest b h l =
 -- ---- the oldest number of a window
 module _ (cells : List ℕ) (p highest : ℕ) where
   -- the number b behind highest is number 2,047 - b of the window
-  behind : (b : ℕ) → b < cells_of_aPlace → window_number highest (cells_of_aPlace - 1 - b) ≡ distance_of highest b
-  behind b l = let e : cells_of_aPlace - 1 - (cells_of_aPlace - 1 - b) ≡ b = omega arith in rw e
+  behind : (b : ℕ) → b < cells_of_a_place → window_number highest (cells_of_a_place - 1 - b) ≡ distance_of highest b
+  behind b l = let e : cells_of_a_place - 1 - (cells_of_a_place - 1 - b) ≡ b = omega arith in rw e
 
-  cell_behind : (b : ℕ) → b < cells_of_aPlace
-      → has_arrived cells p highest (cells_of_aPlace - 1 - b) ≡ is_filled (read_cell (cell_at cells p (distance_of highest b)))
+  cell_behind : (b : ℕ) → b < cells_of_a_place
+      → has_arrived cells p highest (cells_of_a_place - 1 - b) ≡ is_filled (read_cell (cell_at cells p (distance_of highest b)))
   cell_behind b l = ap (λ (n : ℕ). is_filled (read_cell (cell_at cells p n))) (behind b l)
 
-  not_arrived : (b : ℕ) → b < cells_of_aPlace → has_arrived cells p highest (cells_of_aPlace - 1 - b) ≡ false → NotArrived cells p highest b
+  not_arrived : (b : ℕ) → b < cells_of_a_place → has_arrived cells p highest (cells_of_a_place - 1 - b) ≡ false → NotArrived cells p highest b
   not_arrived b l t = empty_is _ (sym (cell_behind b l) ∙ t)
 
-  by_search : (f : Found) → first_from (has_arrived cells p highest) 0 cells_of_aPlace ≡ f → OldestIs cells p highest (number_found highest f)
+  by_search : (f : Found) → first_from (has_arrived cells p highest) 0 cells_of_a_place ≡ f → OldestIs cells p highest (number_found highest f)
   by_search (At i) e =
-      let l = first_below (has_arrived cells p highest) cells_of_aPlace 0 i e in
-      let f = filled_is _ (first_true (has_arrived cells p highest) cells_of_aPlace 0 i e) in
-      arrived (cells_of_aPlace - 1 - i) f.0 f.1.0 (omega arith) f.1.1
-      (λ c a b. not_arrived c b (first_before (has_arrived cells p highest) cells_of_aPlace 0 i (cells_of_aPlace - 1 - c) e (omega arith) (omega arith)))
+      let l = first_below (has_arrived cells p highest) cells_of_a_place 0 i e in
+      let f = filled_is _ (first_true (has_arrived cells p highest) cells_of_a_place 0 i e) in
+      arrived (cells_of_a_place - 1 - i) f.0 f.1.0 (omega arith) f.1.1
+      (λ c a b. not_arrived c b (first_before (has_arrived cells p highest) cells_of_a_place 0 i (cells_of_a_place - 1 - c) e (omega arith) (omega arith)))
   by_search Nothing e =
-      none (λ c l. not_arrived c l (first_false (has_arrived cells p highest) cells_of_aPlace 0 (cells_of_aPlace - 1 - c) e (omega arith) (omega arith)))
+      none (λ c l. not_arrived c l (first_false (has_arrived cells p highest) cells_of_a_place 0 (cells_of_a_place - 1 - c) e (omega arith) (omega arith)))
 
   pub oldest_is : OldestIs cells p highest (oldest_in cells p highest)
   unfolding oldest_in
-  oldest_is = by_search (first_from (has_arrived cells p highest) 0 cells_of_aPlace) refl
+  oldest_is = by_search (first_from (has_arrived cells p highest) 0 cells_of_a_place) refl
 
   -- a number of the window that did not arrive, by its place in the window
-  not_filled : (i : ℕ) → i < cells_of_aPlace → NotArrived cells p highest (cells_of_aPlace - 1 - i) → has_arrived cells p highest i ≡ false
+  not_filled : (i : ℕ) → i < cells_of_a_place → NotArrived cells p highest (cells_of_a_place - 1 - i) → has_arrived cells p highest i ≡ false
   not_filled i l e = ap is_filled e
 
   -- and no other number is
   pub oldest_only : (n : ℕ) → OldestIs cells p highest n → n ≡ oldest_in cells p highest
   unfolding oldest_in
   oldest_only n (arrived b mark time l f before) =
-      let found : first_from (has_arrived cells p highest) 0 cells_of_aPlace ≡ At (cells_of_aPlace - 1 - b) =
-      first_at (has_arrived cells p highest) cells_of_aPlace 0 (cells_of_aPlace - 1 - b) (omega arith) (omega arith) (cell_behind b l ∙ ap is_filled f)
-      (λ i a g. not_filled i (omega arith) (before (cells_of_aPlace - 1 - i) (omega arith) (omega arith))) in
+      let found : first_from (has_arrived cells p highest) 0 cells_of_a_place ≡ At (cells_of_a_place - 1 - b) =
+      first_at (has_arrived cells p highest) cells_of_a_place 0 (cells_of_a_place - 1 - b) (omega arith) (omega arith) (cell_behind b l ∙ ap is_filled f)
+      (λ i a g. not_filled i (omega arith) (before (cells_of_a_place - 1 - i) (omega arith) (omega arith))) in
       rw found (sym (behind b l))
   oldest_only n (none before) =
-      let found : first_from (has_arrived cells p highest) 0 cells_of_aPlace ≡ Nothing =
-      first_nothing (has_arrived cells p highest) cells_of_aPlace (λ i l. not_filled i l (before (cells_of_aPlace - 1 - i) (omega arith))) in
+      let found : first_from (has_arrived cells p highest) 0 cells_of_a_place ≡ Nothing =
+      first_nothing (has_arrived cells p highest) cells_of_a_place (λ i l. not_filled i l (before (cells_of_a_place - 1 - i) (omega arith))) in
       rw found
 
 -- the range that starts with the oldest number and ends with highest lies in the window: the
@@ -95,7 +95,7 @@ module _ (cells : List ℕ) (p highest : ℕ) where
 pub oldest_range : (cells : List ℕ) (p highest n : ℕ) → highest < sequence_numbers → OldestIs cells p highest n → InWindow highest n (distance_of highest n + 1)
 oldest_range cells p highest n h o = record { some = λ g. (near n o, omega arith); none = λ e. absurd (omega arith) }
   where
-    near : (n : ℕ) → OldestIs cells p highest n → distance_of highest n < cells_of_aPlace
+    near : (n : ℕ) → OldestIs cells p highest n → distance_of highest n < cells_of_a_place
     near n (arrived b mark time l f before) = rw (distance_back highest b h (omega arith)) l
     near n (none before) = omega arith
 

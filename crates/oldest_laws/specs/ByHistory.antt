@@ -2,7 +2,7 @@
 -- by its accepted arrivals alone. An entry is an accepted arrival with its full number.
 use Rattle.std.specs.Prelude.{ℕ, ◌+◌, ◌≤◌, ◌<◌, ◌≡◌}
 use mathlib.Core.List.{List, Memᴰ}
-use Rattle.ring.specs.Ring.{cells_of_aPlace}
+use Rattle.ring.specs.Ring.{cells_of_a_place}
 use Rattle.history.specs.Calls.{Accepted}
 use Rattle.history.specs.Meaning.{Entry, top_of, entries_of}
 use Rattle.feedback.specs.Seen.{StandsFor}
@@ -16,4 +16,4 @@ pub record OldestArrived (history : List Accepted) (s : ℕ) : Type 0 where
   -- an accepted arrival had it
   pub had : (e : Entry) × (Memᴰ e (entries_of history) × (e.full ≡ full))
   -- and none had a lower one of the window
-  pub lowest : (e : Entry) → Memᴰ e (entries_of history) → top_of history < e.full + cells_of_aPlace → full ≤ e.full
+  pub lowest : (e : Entry) → Memᴰ e (entries_of history) → top_of history < e.full + cells_of_a_place → full ≤ e.full

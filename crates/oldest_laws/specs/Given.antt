@@ -3,7 +3,7 @@
 -- lent content. Of several refusals that apply the first is given: 4, 5.
 use Rattle.std.specs.Prelude.{ℕ, ◌+◌, ◌≤◌, ◌<◌, ◌≡◌, List, length}
 use Rattle.metric.specs.declared.Time.{Time}
-use Rattle.ring.specs.Ring.{cells_of_aPlace}
+use Rattle.ring.specs.Ring.{cells_of_a_place}
 use Rattle.window.specs.Number.{distance_of}
 use Rattle.places.specs.Place.{place_at}
 use Rattle.places.specs.Shape.{Shaped, Misshapen}
@@ -23,10 +23,10 @@ NotArrived cells place highest b = read_cell (cell_at cells place (distance_of h
 -- the oldest number that arrived, of the window of a place that ends with highest
 pub data OldestIs (cells : List ℕ) (place highest : ℕ) : ℕ → Type 0 where
   -- the number b behind highest arrived, and none of the window before it
-  arrived : (b mark : ℕ) (time : Time) → b < cells_of_aPlace → read_cell (cell_at cells place (distance_of highest b)) ≡ Filled mark time
-      → ((c : ℕ) → b < c → c < cells_of_aPlace → NotArrived cells place highest c) → OldestIs cells place highest (distance_of highest b)
+  arrived : (b mark : ℕ) (time : Time) → b < cells_of_a_place → read_cell (cell_at cells place (distance_of highest b)) ≡ Filled mark time
+      → ((c : ℕ) → b < c → c < cells_of_a_place → NotArrived cells place highest c) → OldestIs cells place highest (distance_of highest b)
   -- none of the window arrived: highest
-  none : ((c : ℕ) → c < cells_of_aPlace → NotArrived cells place highest c) → OldestIs cells place highest highest
+  none : ((c : ℕ) → c < cells_of_a_place → NotArrived cells place highest c) → OldestIs cells place highest highest
 
 -- asking for the oldest number of the place k: 4, 5
 pub data OldestGiven (places cells : List ℕ) (k : ℕ) : OldestAnswer → Type 0 where

@@ -21,34 +21,34 @@ use Rattle.reports.specs.declared.MetricAnswer.TheVariants.{Reported, Refused}
 use Rattle.rewriter.specs.declared.Rewriting.TheVariants as rewriting
 
 -- a packet of one block, whose numbers go past 65535
-pub case_P : Packet
-case_P = record { sender = 0xf1; rts = 0x50000; blocks = record { ssrc = 0xa01; begin = 0xfffd; metrics = 0 ∷ 0xc200 ∷ 0 ∷ 0xe000 ∷ [] } ∷ [] }
+pub case_p : Packet
+case_p = record { sender = 0xf1; rts = 0x50000; blocks = record { ssrc = 0xa01; begin = 0xfffd; metrics = 0 ∷ 0xc200 ∷ 0 ∷ 0xe000 ∷ [] } ∷ [] }
 
-pub octets_P : List ℕ
-octets_P =
+pub octets_p : List ℕ
+octets_p =
     0x8b ∷ 0xcd ∷ 0 ∷ 6 ∷ 0 ∷ 0 ∷ 0 ∷ 0xf1 ∷ 0 ∷ 0 ∷ 0x0a ∷ 0x01 ∷ 0xff ∷ 0xfd ∷ 0 ∷ 4 ∷ 0 ∷ 0 ∷ 0xc2 ∷ 0 ∷ 0 ∷ 0 ∷ 0xe0 ∷ 0 ∷ 0 ∷ 5 ∷ 0 ∷ 0 ∷ []
 
-pub written_P : encode_packet case_P ≡ octets_P
-unfolding case_P octets_P encode_packet encode_blocks encode_block encode_metrics filler
-written_P = refl
+pub written_p : encode_packet case_p ≡ octets_p
+unfolding case_p octets_p encode_packet encode_blocks encode_block encode_metrics filler
+written_p = refl
 
-pub read_P : decode_packet octets_P ≡ packet case_P
-unfolding case_P octets_P decode_packet walk_of start_of walk step_at filler_at be16 be32 metrics_at_of
-read_P = refl
+pub read_p : decode_packet octets_p ≡ packet case_p
+unfolding case_p octets_p decode_packet walk_of start_of walk step_at filler_at be16 be32 metrics_at_of
+read_p = refl
 
 -- its metrics, numbers 65533 to 0, then no such number, and no such block
-pub metrics_P : map (read_metric octets_P 0) (0 ∷ 1 ∷ 2 ∷ 3 ∷ 4 ∷ [])
+pub metrics_p : map (read_metric octets_p 0) (0 ∷ 1 ∷ 2 ∷ 3 ∷ 4 ∷ [])
     ≡ Reported 65533 NotReceived ∷ Reported 65534 (Received 2 512) ∷ Reported 65535 NotReceived ∷ Reported 0 (Received 3 0) ∷ Refused NoNumber ∷ []
-unfolding octets_P walk_of start_of walk step_at filler_at be16 be32 metrics_at_of decode_of
-metrics_P = refl
+unfolding octets_p walk_of start_of walk step_at filler_at be16 be32 metrics_at_of decode_of
+metrics_p = refl
 
-pub no_block_P : read_block octets_P 1 ≡ answer.Refused NoBlock
-unfolding octets_P walk_of start_of walk step_at filler_at be16 be32
-no_block_P = refl
+pub no_block_p : read_block octets_p 1 ≡ answer.Refused NoBlock
+unfolding octets_p walk_of start_of walk step_at filler_at be16 be32
+no_block_p = refl
 
-pub no_room_P : rewrite_of (decode_packet octets_P) [] ≡ output_after (rewriting.Refused OutputTooShort) []
-unfolding octets_P decode_packet walk_of start_of walk step_at filler_at be16 be32 metrics_at_of
-no_room_P = refl
+pub no_room_p : rewrite_of (decode_packet octets_p) [] ≡ output_after (rewriting.Refused OutputTooShort) []
+unfolding octets_p decode_packet walk_of start_of walk step_at filler_at be16 be32 metrics_at_of
+no_room_p = refl
 
 -- octets 0 to 7 with sender 1, and RTS 9
 pub small : ℕ → ℕ → ℕ → List ℕ → List ℕ

@@ -7,7 +7,7 @@ use native.Mathlib.Omega.{arith}
 use native.Mathlib.Decide.{dec_le, dec_lt}
 use Rattle.lists.specs.declared.Found.{Found}
 use Rattle.refusal.specs.declared.Refusal.{Refusal}
-use Rattle.ring.specs.Ring.{cells_of_aPlace}
+use Rattle.ring.specs.Ring.{cells_of_a_place}
 use Rattle.window.specs.Number.{distance_of, move_of, farthest_ahead}
 use Rattle.window.specs.declared.Move.{Move}
 use Rattle.window.proofs.Number.{move_ahead, move_within, move_old}
@@ -40,7 +40,7 @@ moved_by high number =
   where
     behind : (0 < distance_of number high → farthest_ahead < distance_of number high) → Moved high number
     behind n =
-        elim (dec_lt (distance_of high number) cells_of_aPlace) [
+        elim (dec_lt (distance_of high number) cells_of_a_place) [
           | yes b ↦ within (move_within high number n b) (λ o. let g = o.below in omega arith)
           | no b ↦ old (move_old high number n (omega arith)) (record { not_ahead = λ l. let g = n l in omega arith; below = omega arith })
         ]

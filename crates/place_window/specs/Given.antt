@@ -2,7 +2,7 @@
 -- its window, and when it is refused, in the words of the rules: 3 if the stream is held, else 2.
 use Rattle.std.specs.Prelude.{ℕ, ◌≤◌, ◌<◌, List}
 use Rattle.refusal.specs.declared.Refusal.{Refusal}
-use Rattle.ring.specs.Ring.{cells_of_aPlace}
+use Rattle.ring.specs.Ring.{cells_of_a_place}
 use Rattle.window.specs.Number.{distance_of, farthest_ahead}
 use Rattle.places.specs.After.{StoreAfter, store_after}
 use Rattle.places.specs.Held.{Unheld, HeldAt, Vacant}
@@ -11,7 +11,7 @@ use Rattle.refusal.specs.declared.Refusal.TheVariants.{NoFreePlace, TooOld}
 -- refusal 3: the number is not ahead of the highest, and it is 2,048 or more behind it
 pub record Old (high number : ℕ) : Type 0 where
   pub not_ahead : 0 < distance_of number high → farthest_ahead < distance_of number high
-  pub below : cells_of_aPlace ≤ distance_of high number
+  pub below : cells_of_a_place ≤ distance_of high number
 
 -- a refused one leaves the store as it was
 module _ {A : Type 0} (accepted : A) (refused : Refusal → A) where

@@ -5,7 +5,7 @@ use Rattle.std.specs.Prelude.{ℕ, ◌+◌, ◌-◌, ◌*◌, min, List, get_or,
 use Rattle.lists.specs.declared.Found.{Found}
 use Rattle.refusal.specs.declared.Refusal.{Refusal}
 use Rattle.window.specs.Number.{move_of}
-use Rattle.ring.specs.Ring.{cells_of_aPlace, slot, emptied}
+use Rattle.ring.specs.Ring.{cells_of_a_place, slot, emptied}
 use Rattle.window.specs.declared.Move.{Move}
 use Rattle.places.specs.Place.{place_word, highest_at, free_of}
 use Rattle.places.specs.After.{StoreAfter, store_after}
@@ -15,14 +15,14 @@ use Rattle.window.specs.declared.Move.TheVariants as move
 
 -- where the cell of a number stands, and its word
 abbrev pub cell_index : ℕ → ℕ → ℕ
-cell_index place number = slot (cells_of_aPlace * place) number
+cell_index place number = slot (cells_of_a_place * place) number
 
 abbrev pub cell_at : List ℕ → ℕ → ℕ → ℕ
 cell_at cells place number = get_or cells (cell_index place number) 0
 
 -- the cells with those of the n newest numbers of the window that ends with number emptied
 unfoldable pub newest_emptied : List ℕ → ℕ → ℕ → ℕ → List ℕ
-newest_emptied cells place number n = emptied cells (cells_of_aPlace * place) (number + (cells_of_aPlace + 1) - n) n
+newest_emptied cells place number n = emptied cells (cells_of_a_place * place) (number + (cells_of_a_place + 1) - n) n
 
 -- the same, and the number's own cell has a word
 unfoldable pub opened : List ℕ → ℕ → ℕ → ℕ → ℕ → List ℕ
@@ -41,7 +41,7 @@ module _ {A : Type 0} (accepted : A) (refused : Refusal → A) (f : ℕ → ℕ)
 
   -- a number of a stream that the place p holds, by how it moves the window
   abbrev pub moved_by_of : Move → List ℕ → List ℕ → ℕ → ℕ → ℕ → StoreAfter A
-  moved_by_of (move.Ahead d) places cells p ssrc number = moved places cells p ssrc number (min d cells_of_aPlace)
+  moved_by_of (move.Ahead d) places cells p ssrc number = moved places cells p ssrc number (min d cells_of_a_place)
   moved_by_of (move.Within b) places cells p ssrc number = store_after accepted places (updated f cells p number)
   moved_by_of move.TooOld places cells p ssrc number = store_after (refused TooOld) places cells
 
@@ -51,7 +51,7 @@ module _ {A : Type 0} (accepted : A) (refused : Refusal → A) (f : ℕ → ℕ)
   -- rule "New stream": a number of a stream that no place holds takes the lowest free place and
   -- empties its cells
   abbrev pub started_at : Found → List ℕ → List ℕ → ℕ → ℕ → StoreAfter A
-  started_at (At p) places cells ssrc number = moved places cells p ssrc number cells_of_aPlace
+  started_at (At p) places cells ssrc number = moved places cells p ssrc number cells_of_a_place
   started_at Nothing places cells ssrc number = store_after (refused NoFreePlace) places cells
 
   -- a number of a stream, by where the stream was found: 3 or 2

@@ -1,6 +1,6 @@
 // The window of a place, over any word of a cell: where a number's cell stands in the ring, and how the window moves on.
 ghost use Rattle.std.specs.Prelude.{◌≡◌, ◌+◌, ◌-◌, ◌*◌, ◌^◌, ◌≤◌, ◌<◌, length, set};
-ghost use Rattle.ring.specs.Ring.{cells_of_aPlace, emptied};
+ghost use Rattle.ring.specs.Ring.{cells_of_a_place, emptied};
 ghost use Rattle.places.specs.Place.{place_word};
 ghost use Rattle.places.specs.Shape.{Ready};
 ghost use Rattle.place_window.specs.Window.{cell_index, opened};
@@ -10,7 +10,7 @@ use ring::CELLS_OF_A_PLACE;
 
 // Where the cell of a number of the place p stands.
 pub fn cell_index(p: usize, number: u16) -> usize
-    requires small { cells_of_aPlace * p + cells_of_aPlace < 2 ^ 64 }
+    requires small { cells_of_a_place * p + cells_of_a_place < 2 ^ 64 }
     ensures value { result ≡ cell_index p number }
 {
     CELLS_OF_A_PLACE * p + (number as usize) % CELLS_OF_A_PLACE
@@ -19,11 +19,11 @@ pub fn cell_index(p: usize, number: u16) -> usize
 // Empties the cells of the other n - 1 numbers that come into the window with number.
 // Most numbers are the next in order: n is then 1, and there is no call.
 fn empty_others(cells: &mut [u64], p: usize, number: u16, n: usize)
-    requires room { cells_of_aPlace * p + cells_of_aPlace ≤ length cells.old }
+    requires room { cells_of_a_place * p + cells_of_a_place ≤ length cells.old }
     requires some { 0 < n }
-    requires few { n ≤ cells_of_aPlace }
+    requires few { n ≤ cells_of_a_place }
     ensures content { cells.new
-        ≡ emptied cells.old (cells_of_aPlace * p) (number + (cells_of_aPlace + 1) - n) (n - 1) }
+        ≡ emptied cells.old (cells_of_a_place * p) (number + (cells_of_a_place + 1) - n) (n - 1) }
 {
     if n == 1 {
         return;
@@ -46,7 +46,7 @@ pub fn open_window(
 )
     requires ready { Ready places.old cells.old p }
     requires some { 0 < n }
-    requires few { n ≤ cells_of_aPlace }
+    requires few { n ≤ cells_of_a_place }
     ensures place { places.new ≡ set places.old p (place_word ssrc number) }
     ensures window { cells.new ≡ opened cells.old p number n word }
 {

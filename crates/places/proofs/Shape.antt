@@ -11,7 +11,7 @@ use Rattle.lists.specs.declared.Found.TheVariants.{At}
 use Rattle.lists.proofs.First.{first_below}
 use Rattle.places.specs.Place.{find_of, free_of}
 use Rattle.places.specs.Shape.{shaped, Shaped, Misshapen, none, too_many_of, disagree, Ready, most_places}
-use Rattle.ring.specs.Ring.{cells_of_aPlace}
+use Rattle.ring.specs.Ring.{cells_of_a_place}
 
 module _ (places cells : List ℕ) where
   pub shaped_none : length places ≡ 0 → shaped places cells ≡ false
@@ -22,12 +22,12 @@ module _ (places cells : List ℕ) where
   unfolding shaped
   shaped_many l = simp (ne_eqb (length places) 0 (λ e. omega arith), lt-ltb most_places (length places) l)
 
-  pub shaped_by : 0 < length places → length places ≤ most_places → shaped places cells ≡ lib.Dec.eqb (length cells) (cells_of_aPlace * length places)
+  pub shaped_by : 0 < length places → length places ≤ most_places → shaped places cells ≡ lib.Dec.eqb (length cells) (cells_of_a_place * length places)
   unfolding shaped
   shaped_by l h = simp (ne_eqb (length places) 0 (λ e. omega arith), le-ltb most_places (length places) h)
 
   pub shaped_is : Shaped places cells → shaped places cells ≡ true
-  shaped_is s = shaped_by s.some s.few ∙ eq-eqb (length cells) (cells_of_aPlace * length places) s.sized
+  shaped_is s = shaped_by s.some s.few ∙ eq-eqb (length cells) (cells_of_a_place * length places) s.sized
 
   pub is_shaped : shaped places cells ≡ true → Shaped places cells
   is_shaped t =
@@ -55,7 +55,7 @@ misshapen_is places cells (disagree n) =
       | yes e ↦ shaped_none places cells e
       | no e ↦
           elim (dec_le (length places) most_places) [
-            | yes l ↦ shaped_by places cells (omega arith) l ∙ ne_eqb (length cells) (cells_of_aPlace * length places) n
+            | yes l ↦ shaped_by places cells (omega arith) l ∙ ne_eqb (length cells) (cells_of_a_place * length places) n
             | no l ↦ shaped_many places cells (omega arith)
           ]
     ]
@@ -72,7 +72,7 @@ shape_of places cells =
       | no e ↦
           elim (dec_le (length places) most_places) [
             | yes l ↦
-                elim (ℕ_discrete (length cells) (cells_of_aPlace * length places)) [
+                elim (ℕ_discrete (length cells) (cells_of_a_place * length places)) [
                   | yes q ↦ right (record { some = omega arith; few = l; sized = q })
                   | no q ↦ wrong (disagree q)
                 ]

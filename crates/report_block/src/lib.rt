@@ -1,7 +1,7 @@
 // Writes a report block: its header, the metrics of its numbers, and the filler.
 ghost use Rattle.std.specs.Prelude.{◌≡◌, map, ◌+◌, ◌*◌, ◌≤◌, length};
 ghost use Rattle.std.proofs.lemmas.List.Edits.{sets};
-ghost use Rattle.ring.specs.Ring.{cells_of_aPlace};
+ghost use Rattle.ring.specs.Ring.{cells_of_a_place};
 ghost use Rattle.cell_metrics.specs.Metrics.{cell_metric};
 ghost use Rattle.packet.specs.Sizes.{block_octets};
 ghost use Rattle.packet.specs.Packet.{encode_metrics, encode_block};
@@ -12,7 +12,7 @@ use packet::BLOCK_HEADER_OCTETS;
 // Writes at `at` the metrics of count numbers starting at begin, of the stream at the place p.
 fn put_metrics(out: &mut [u8], at: usize, cells: &[u64], rts: u32, p: usize, begin: u16, count: u16)
     requires room { at + 2 * count ≤ length out.old }
-    requires held { cells_of_aPlace * p + cells_of_aPlace ≤ length cells.now }
+    requires held { cells_of_a_place * p + cells_of_a_place ≤ length cells.now }
     ensures content { out.new
         ≡ sets out.old at (encode_metrics (map (cell_metric cells.now rts p) (numbers_from begin count))) }
 {
@@ -39,7 +39,7 @@ pub fn put_block(
     count: u16,
 )
     requires room { at + block_octets count ≤ length out.old }
-    requires held { cells_of_aPlace * p + cells_of_aPlace ≤ length cells.now }
+    requires held { cells_of_a_place * p + cells_of_a_place ≤ length cells.now }
     ensures content { out.new
         ≡ sets out.old at
         (encode_block (record { ssrc = ssrc; begin = begin; metrics = map (cell_metric cells.now rts p) (numbers_from begin count) })) }

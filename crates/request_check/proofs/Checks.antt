@@ -9,7 +9,7 @@ use borrow.Author.Tests.{lt-ltb, le-ltb, eq-eqb, ne_eqb}
 use Rattle.lists.specs.declared.Found.{Found}
 use Rattle.lists.proofs.Cases.{never}
 use Rattle.window.specs.Number.{distance_of}
-use Rattle.ring.specs.Ring.{cells_of_aPlace}
+use Rattle.ring.specs.Ring.{cells_of_a_place}
 use Rattle.places.specs.Place.{find_of, highest_at}
 use Rattle.cutting.specs.declared.Request.{Request}
 use Rattle.cutting.proofs.Requests.{no_request, rest_cons, rest_none}
@@ -35,13 +35,13 @@ pub window_empty : (highest s k : ℕ) → k ≡ 0 → in_window_of highest s k 
 unfolding in_window_of
 window_empty highest s k e = rw (eq-eqb k 0 e)
 
-pub window_in : (highest s k back : ℕ) → (k ≡ 0 → ⊥) → back ≡ distance_of highest s → back < cells_of_aPlace → in_window_of highest s k ≡ leb (k - 1) back
+pub window_in : (highest s k back : ℕ) → (k ≡ 0 → ⊥) → back ≡ distance_of highest s → back < cells_of_a_place → in_window_of highest s k ≡ leb (k - 1) back
 unfolding in_window_of
-window_in highest s k back n e l = rw (ne_eqb k 0 n, ← e, lt-ltb back cells_of_aPlace l)
+window_in highest s k back n e l = rw (ne_eqb k 0 n, ← e, lt-ltb back cells_of_a_place l)
 
-pub window_out : (highest s k back : ℕ) → (k ≡ 0 → ⊥) → back ≡ distance_of highest s → cells_of_aPlace ≤ back → in_window_of highest s k ≡ false
+pub window_out : (highest s k back : ℕ) → (k ≡ 0 → ⊥) → back ≡ distance_of highest s → cells_of_a_place ≤ back → in_window_of highest s k ≡ false
 unfolding in_window_of
-window_out highest s k back n e l = rw (ne_eqb k 0 n, ← e, le-ltb back cells_of_aPlace l)
+window_out highest s k back n e l = rw (ne_eqb k 0 n, ← e, le-ltb back cells_of_a_place l)
 
 module _ (places : List ℕ) (earlier : List Request) (r : Request) (f : Found) (e : f ≡ find_of places r.ssrc) where
   pub check_unheld : f ≡ lists.Nothing → Fault NotHeld ≡ check_of places earlier r

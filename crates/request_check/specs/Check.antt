@@ -2,7 +2,7 @@
 use Rattle.std.specs.Prelude.{ℕ, ◌-◌, Bool, true, false, cond, List, [], ◌∷◌, eqb, ltb, leb}
 use Rattle.lists.specs.declared.Found.{Found}
 use Rattle.window.specs.Number.{distance_of}
-use Rattle.ring.specs.Ring.{cells_of_aPlace}
+use Rattle.ring.specs.Ring.{cells_of_a_place}
 use Rattle.places.specs.Place.{find_of, highest_at}
 use Rattle.cutting.specs.declared.Request.{Request}
 use Rattle.request_check.specs.declared.Checked.{Checked}
@@ -21,7 +21,7 @@ named (q ∷ qs) ssrc = cond (eqb q.ssrc ssrc) true (named qs ssrc)
 unfoldable pub in_window_of : ℕ → ℕ → ℕ → Bool
 in_window_of highest begin count =
     cond (eqb count 0) (eqb begin highest)
-    (cond (ltb (distance_of highest begin) cells_of_aPlace) (leb (count - 1) (distance_of highest begin)) false)
+    (cond (ltb (distance_of highest begin) cells_of_a_place) (leb (count - 1) (distance_of highest begin)) false)
 
 -- a request that comes after `earlier` ones, by where its stream was found
 abbrev pub check_at : Found → List ℕ → List Request → Request → Checked

@@ -3,12 +3,12 @@
 use Rattle.std.specs.Prelude.{ℕ, zero, suc, ◌+◌, ◌%◌, List, set}
 
 -- the window of a stream has 2,048 numbers, and each has a cell of its own
-abbrev pub cells_of_aPlace : ℕ
-cells_of_aPlace = 2048
+abbrev pub cells_of_a_place : ℕ
+cells_of_a_place = 2048
 
 -- the slot of a number in the ring that starts at base
 abbrev pub slot : ℕ → ℕ → ℕ
-slot base number = base + number % cells_of_aPlace
+slot base number = base + number % cells_of_a_place
 
 -- the words with the slots of n numbers set to 0, starting at first
 unfoldable pub emptied : List ℕ → ℕ → ℕ → ℕ → List ℕ

@@ -1,6 +1,6 @@
 // A ring of words, one for each number of a window, in a longer slice of words.
 ghost use Rattle.std.specs.Prelude.{◌≡◌, ◌+◌, ◌≤◌, length};
-ghost use Rattle.ring.specs.Ring.{cells_of_aPlace, emptied};
+ghost use Rattle.ring.specs.Ring.{cells_of_a_place, emptied};
 ghost use Rattle.ring.specs.Steps.{cleared};
 
 // The window of a stream: so many numbers, each with a cell of its own.
@@ -21,8 +21,8 @@ fn clear(words: &mut [u64], start: usize, count: usize)
 // Empties the slots of count numbers starting at first, in the ring that starts at base: one run, or two where the ring
 // wraps.
 pub fn empty_run(words: &mut [u64], base: usize, first: usize, count: usize)
-    requires room { base + cells_of_aPlace ≤ length words.old }
-    requires few { count ≤ cells_of_aPlace }
+    requires room { base + cells_of_a_place ≤ length words.old }
+    requires few { count ≤ cells_of_a_place }
     ensures content { words.new ≡ emptied words.old base first count }
 {
     let at = first % CELLS_OF_A_PLACE;

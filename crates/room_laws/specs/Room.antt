@@ -2,7 +2,7 @@
 -- CCFB_ROOM of include/ccfb.h.
 use Rattle.std.specs.Prelude.{ℕ, ◌+◌, ◌*◌, ◌≤◌, List, [], ◌∷◌, length}
 use Rattle.lists.specs.All.{All}
-use Rattle.ring.specs.Ring.{cells_of_aPlace}
+use Rattle.ring.specs.Ring.{cells_of_a_place}
 use Rattle.cutting.specs.Limits.{least_limit, most_limit, most_requests}
 use Rattle.cutting.specs.Plan.{plan, total_octets}
 use Rattle.cutting.specs.declared.Request.{Request}
@@ -32,5 +32,5 @@ room_of_requests rs = room (sum_of_counts rs) (length rs)
 abbrev pub Suffice : ℕ → ℕ → Type 0
 Suffice a b =
     (limit : ℕ) (rs : List Request) → least_limit ≤ limit → limit ≤ most_limit
-    → length rs ≤ most_requests → All (λ r. r.count ≤ cells_of_aPlace) rs
+    → length rs ≤ most_requests → All (λ r. r.count ≤ cells_of_a_place) rs
     → total_octets (plan limit rs) ≤ a * sum_of_counts rs + b * length rs

@@ -4,7 +4,7 @@ use borrow.Author.Tests.{lt-leb}
 use lib.Seq.{set-get_or}
 use Rattle.lists.specs.declared.Found.{Found}
 use Rattle.lists.proofs.Cases.{split_le}
-use Rattle.ring.specs.Ring.{cells_of_aPlace}
+use Rattle.ring.specs.Ring.{cells_of_a_place}
 use Rattle.window.specs.Number.{sequence_numbers, distance_of}
 use Rattle.places.specs.Place.{highest_at, find_of}
 use Rattle.place_window.specs.Window.{cell_index, cell_at, updated}
@@ -15,13 +15,13 @@ use Rattle.lists.specs.declared.Found.TheVariants.{At, Nothing}
 -- ---- the word of a cell
 
 module _ (b metric rts word : ℕ) where
-  pub past_window : cells_of_aPlace ≤ b → word_in_window b metric rts word ≡ word
+  pub past_window : cells_of_a_place ≤ b → word_in_window b metric rts word ≡ word
   unfolding word_in_window
-  past_window l = rw (le-leb cells_of_aPlace b l)
+  past_window l = rw (le-leb cells_of_a_place b l)
 
-  pub in_window : b < cells_of_aPlace → word_in_window b metric rts word ≡ word_reported metric rts word
+  pub in_window : b < cells_of_a_place → word_in_window b metric rts word ≡ word_reported metric rts word
   unfolding word_in_window
-  in_window l = rw (lt-leb cells_of_aPlace b l)
+  in_window l = rw (lt-leb cells_of_a_place b l)
 
 -- ---- one report
 
@@ -35,28 +35,28 @@ module _ (p highest rts : ℕ) (cells : List ℕ) (number metric : ℕ) where
   reported_at_other i n = get_or-set_other cells (cell_index p number) i _ 0 n
 
   -- a number outside the window changes nothing
-  pub reported_at_past : cells_of_aPlace ≤ distance_of highest number → reported_at p highest rts cells number metric ≡ cells
+  pub reported_at_past : cells_of_a_place ≤ distance_of highest number → reported_at p highest rts cells number metric ≡ cells
   unfolding updated
   reported_at_past l =
       rw (past_window (distance_of highest number) metric rts (cell_at cells p number) l) (set-get_or cells (cell_index p number) 0)
 
-  pub reported_at_in : distance_of highest number < cells_of_aPlace
+  pub reported_at_in : distance_of highest number < cells_of_a_place
       → reported_at p highest rts cells number metric ≡ updated (word_reported metric rts) cells p number
   unfolding updated
   reported_at_in l = rw (in_window (distance_of highest number) metric rts (cell_at cells p number) l)
 
   -- two numbers of the window have cells of their own
   apart : (m : ℕ) → highest < sequence_numbers → number < sequence_numbers → m < sequence_numbers
-      → distance_of highest number < cells_of_aPlace → distance_of highest m < cells_of_aPlace
+      → distance_of highest number < cells_of_a_place → distance_of highest m < cells_of_a_place
       → (m ≡ number → ⊥) → cell_index p m ≡ cell_index p number → ⊥
   apart m h l k a b n e = n (omega arith)
 
   -- so what the window says of every other number stays
   pub reported_at_number : (m : ℕ) → highest < sequence_numbers → number < sequence_numbers → m < sequence_numbers
-      → distance_of highest m < cells_of_aPlace → (m ≡ number → ⊥)
+      → distance_of highest m < cells_of_a_place → (m ≡ number → ⊥)
       → cell_at (reported_at p highest rts cells number metric) p m ≡ cell_at cells p m
   reported_at_number m h l k b n =
-      split_le cells_of_aPlace (distance_of highest number) (λ past. ap (λ (c : List ℕ). cell_at c p m) (reported_at_past past))
+      split_le cells_of_a_place (distance_of highest number) (λ past. ap (λ (c : List ℕ). cell_at c p m) (reported_at_past past))
       (λ a. reported_at_other (cell_index p m) (apart m h l k a b n))
 
 module _ (places : List ℕ) (rts : ℕ) where
@@ -90,22 +90,22 @@ module _ (places : List ℕ) (rts : ℕ) where
 
     -- in numbers: what the window of the report's stream says of any other number stays
     pub reported_number : (p m : ℕ) → find_of places r.ssrc ≡ At p → r.number < sequence_numbers → m < sequence_numbers
-        → distance_of (highest_at places p) m < cells_of_aPlace → (m ≡ r.number → ⊥)
+        → distance_of (highest_at places p) m < cells_of_a_place → (m ≡ r.number → ⊥)
         → cell_at (reported places rts cells r) p m ≡ cell_at cells p m
     reported_number p m e l k b n =
         rw (reported_held p e)
         (reported_at_number p (highest_at places p) rts cells r.number r.metric m (omega arith) l k b n)
 
     -- its own word is as the metric leaves it, where the number is in the window
-    pub reported_own : (p : ℕ) → find_of places r.ssrc ≡ At p → cells_of_aPlace * p + cells_of_aPlace ≤ length cells
-        → distance_of (highest_at places p) r.number < cells_of_aPlace
+    pub reported_own : (p : ℕ) → find_of places r.ssrc ≡ At p → cells_of_a_place * p + cells_of_a_place ≤ length cells
+        → distance_of (highest_at places p) r.number < cells_of_a_place
         → cell_at (reported places rts cells r) p r.number ≡ word_reported r.metric rts (cell_at cells p r.number)
     unfolding updated
     reported_own p e room l =
         rw (reported_held p e, reported_at_in p (highest_at places p) rts cells r.number r.metric l)
         (get_or-set_same cells (cell_index p r.number) _ 0 (omega arith))
 
-    pub reported_past : (p : ℕ) → find_of places r.ssrc ≡ At p → cells_of_aPlace ≤ distance_of (highest_at places p) r.number
+    pub reported_past : (p : ℕ) → find_of places r.ssrc ≡ At p → cells_of_a_place ≤ distance_of (highest_at places p) r.number
         → reported places rts cells r ≡ cells
     reported_past p e l = reported_held p e ∙ reported_at_past p (highest_at places p) rts cells r.number r.metric l
 

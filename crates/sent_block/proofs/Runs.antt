@@ -2,7 +2,7 @@
 use Rattle.std.proofs.Common.{◌≡◌, ℕ, zero, suc, ◌+◌, ◌-◌, ◌*◌, ◌%◌, ◌<◌, ◌≤◌, min, List, get_or, set, sym, refl, ap, ◌∙◌, add-zero, arith}
 use native.Mathlib.Nat.{sub-zero}
 use Rattle.octets.specs.Octets.{be16}
-use Rattle.ring.specs.Ring.{cells_of_aPlace}
+use Rattle.ring.specs.Ring.{cells_of_a_place}
 use Rattle.window.specs.Number.{sequence_numbers, distance_of}
 use Rattle.place_window.specs.Window.{cell_index, updated}
 use Rattle.packet.specs.Sizes.{most_reports}
@@ -35,43 +35,43 @@ module _ (s : List ℕ) (rts at from n : ℕ) (cells : List ℕ) (i : ℕ) where
 
 -- ---- where count numbers of the window are cut at the end of the ring
 
-pub same_slot : (x : ℕ) → x % sequence_numbers % cells_of_aPlace ≡ x % cells_of_aPlace
+pub same_slot : (x : ℕ) → x % sequence_numbers % cells_of_a_place ≡ x % cells_of_a_place
 same_slot x = omega arith
 
-side_slot : (x i : ℕ) → x % cells_of_aPlace + i < cells_of_aPlace → (x + i) % cells_of_aPlace ≡ x % cells_of_aPlace + i
+side_slot : (x i : ℕ) → x % cells_of_a_place + i < cells_of_a_place → (x + i) % cells_of_a_place ≡ x % cells_of_a_place + i
 side_slot x i l = omega arith
 
 -- k numbers up to the end of the ring, and i more
-round_slot : (x k i : ℕ) → x % cells_of_aPlace + k ≡ cells_of_aPlace → i < cells_of_aPlace → (x + k + i) % cells_of_aPlace ≡ i
+round_slot : (x k i : ℕ) → x % cells_of_a_place + k ≡ cells_of_a_place → i < cells_of_a_place → (x + k + i) % cells_of_a_place ≡ i
 round_slot x k i e l = omega arith
 
 -- k of them come before the end
 pub record Cut (slot count k : ℕ) : Type 0 where
   pub part : k ≤ count
-  pub room : slot + k ≤ cells_of_aPlace
-  pub full : k < count → slot + k ≡ cells_of_aPlace
+  pub room : slot + k ≤ cells_of_a_place
+  pub full : k < count → slot + k ≡ cells_of_a_place
 
-pub cut_at : (p slot count k : ℕ) → slot < cells_of_aPlace
-    → k ≡ min count (cells_of_aPlace - (cells_of_aPlace * p + slot - cells_of_aPlace * p)) → Cut slot count k
+pub cut_at : (p slot count k : ℕ) → slot < cells_of_a_place
+    → k ≡ min count (cells_of_a_place - (cells_of_a_place * p + slot - cells_of_a_place * p)) → Cut slot count k
 cut_at p slot count k l e = record { part = omega arith; room = omega arith; full = λ m. omega arith }
 
-module _ (p begin f count k : ℕ) (few : count ≤ cells_of_aPlace) (cut : Cut ((begin + f) % cells_of_aPlace) count k) where
+module _ (p begin f count k : ℕ) (few : count ≤ cells_of_a_place) (cut : Cut ((begin + f) % cells_of_a_place) count k) where
   abbrev cell_of : ℕ → ℕ
   cell_of j = cell_index p ((begin + j) % sequence_numbers)
 
-  before_the_end : (i : ℕ) → i < k → cell_of (f + i) ≡ cells_of_aPlace * p + (begin + f) % cells_of_aPlace + i
+  before_the_end : (i : ℕ) → i < k → cell_of (f + i) ≡ cells_of_a_place * p + (begin + f) % cells_of_a_place + i
   before_the_end i l =
       let e : begin + (f + i) ≡ begin + f + i = omega arith in
       let r = cut.room in
       rw (e, same_slot (begin + f + i), side_slot (begin + f) i (omega arith)) (omega arith)
 
-  from_the_start : (i : ℕ) → i < count - k → cell_of (f + k + i) ≡ cells_of_aPlace * p + i
+  from_the_start : (i : ℕ) → i < count - k → cell_of (f + k + i) ≡ cells_of_a_place * p + i
   from_the_start i l =
       let e : begin + (f + k + i) ≡ begin + f + k + i = omega arith in
       let m : k < count = omega arith in
       rw (e, same_slot (begin + f + k + i), round_slot (begin + f) k i (cut.full m) (omega arith)) refl
 
-few_cells : (d n f count : ℕ) → f ≡ first_in_window d → f + count ≡ end_in_window d n → count ≤ cells_of_aPlace
+few_cells : (d n f count : ℕ) → f ≡ first_in_window d → f + count ≡ end_in_window d n → count ≤ cells_of_a_place
 few_cells d n f count a e = omega arith
 
 of_the_block : (d n f count : ℕ) → f + count ≡ end_in_window d n → f + count ≤ n
@@ -79,19 +79,19 @@ of_the_block d n f count e = omega arith
 
 -- both runs lie in the place, and their metrics among the n of the block
 pub record Room (p slot from f count k cells packet : ℕ) : Type 0 where
-  pub front : cells_of_aPlace * p + slot + k ≤ cells
-  pub behind : cells_of_aPlace * p + (count - k) ≤ cells
+  pub front : cells_of_a_place * p + slot + k ≤ cells
+  pub behind : cells_of_a_place * p + (count - k) ≤ cells
   pub metrics : from + 2 * f + 2 * k ≤ packet
   pub more : from + 2 * f + 2 * k + 2 * (count - k) ≤ packet
 
 pub room_for : (d n p slot from f count k cells packet : ℕ) → f ≡ first_in_window d → f + count ≡ end_in_window d n
-    → Cut slot count k → cells_of_aPlace * p + cells_of_aPlace ≤ cells → from + 2 * n ≤ packet
+    → Cut slot count k → cells_of_a_place * p + cells_of_a_place ≤ cells → from + 2 * n ≤ packet
     → Room p slot from f count k cells packet
 room_for d n p slot from f count k cells packet first last cut room within =
     by_counts (few_cells d n f count first last) (of_the_block d n f count last) cut.part cut.room room within
   where
-    by_counts : count ≤ cells_of_aPlace → f + count ≤ n → k ≤ count → slot + k ≤ cells_of_aPlace
-        → cells_of_aPlace * p + cells_of_aPlace ≤ cells → from + 2 * n ≤ packet → Room p slot from f count k cells packet
+    by_counts : count ≤ cells_of_a_place → f + count ≤ n → k ≤ count → slot + k ≤ cells_of_a_place
+        → cells_of_a_place * p + cells_of_a_place ≤ cells → from + 2 * n ≤ packet → Room p slot from f count k cells packet
     by_counts a b c e g h = record { front = omega arith; behind = omega arith; metrics = omega arith; more = omega arith }
 
 no_less : {a c : ℕ} → a ≡ c → a ≤ c
@@ -143,22 +143,22 @@ module _ (s : List ℕ) (p highest rts begin from n : ℕ)
 
   -- all of them, the first of which is number f of the block: up to the end of the ring, and from its start
   module _ (f count k : ℕ) (first : f ≡ first_in_window away) (last : f + count ≡ end_in_window away n)
-      (cut : Cut ((begin + f) % cells_of_aPlace) count k) where
+      (cut : Cut ((begin + f) % cells_of_a_place) count k) where
     abbrev all_of : f + k + (count - k) ≡ end_in_window away n
     all_of = sum f count k cut.part ∙ last
 
     pub two_runs : (cells : List ℕ)
         → run_entered rts
-        (run_entered rts cells (cells_of_aPlace * p + (begin + f) % cells_of_aPlace) (metrics_at_of s (from + 2 * f) k))
-        (cells_of_aPlace * p) (metrics_at_of s (from + 2 * f + 2 * k) (count - k))
+        (run_entered rts cells (cells_of_a_place * p + (begin + f) % cells_of_a_place) (metrics_at_of s (from + 2 * f) k))
+        (cells_of_a_place * p) (metrics_at_of s (from + 2 * f + 2 * k) (count - k))
         ≡ entered_from p highest rts cells begin 0 (metrics_at_of s from n)
     two_runs cells =
         let few-of = few_cells away n f count first last in
         rw (twice from f k)
         (window_end s p highest rts begin from n _ h b few (f + k + (count - k)) (no_less (sym all_of))
-        ∙ one_run (count - k) (f + k) (cells_of_aPlace * p) _ (no_less_more k (sym first)) (no_less all_of)
+        ∙ one_run (count - k) (f + k) (cells_of_a_place * p) _ (no_less_more k (sym first)) (no_less all_of)
         (from_the_start p begin f count k few-of cut)
-        ∙ one_run k f (cells_of_aPlace * p + (begin + f) % cells_of_aPlace) cells (no_less (sym first)) (part_of f count k cut.part last)
+        ∙ one_run k f (cells_of_a_place * p + (begin + f) % cells_of_a_place) cells (no_less (sym first)) (part_of f count k cut.part last)
         (before_the_end p begin f count k few-of cut)
         ∙ ap (λ (j : ℕ). entered_from p highest rts cells begin j (metrics_at_of s (from + 2 * j) (n - j))) first
         ∙ window_start s p highest rts begin from n cells h b few)

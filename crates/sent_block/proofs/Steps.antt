@@ -5,7 +5,7 @@ use native.Mathlib.Nat.{sub-zero}
 use Rattle.lists.specs.declared.Found.{Found}
 use Rattle.lists.proofs.Cases.{split_le}
 use Rattle.octets.specs.Octets.{be16}
-use Rattle.ring.specs.Ring.{cells_of_aPlace}
+use Rattle.ring.specs.Ring.{cells_of_a_place}
 use Rattle.window.specs.Number.{sequence_numbers, distance_of}
 use Rattle.places.specs.Place.{highest_at, find_of}
 use Rattle.place_window.specs.Window.{updated}
@@ -45,13 +45,13 @@ module _ (highest begin n : ℕ) (h : highest < sequence_numbers) (b : begin < s
   abbrev distance : ℕ → ℕ
   distance j = distance_of highest ((begin + j) % sequence_numbers)
 
-  window_before : (j : ℕ) → j < first_in_window d → j < n → cells_of_aPlace ≤ distance j
+  window_before : (j : ℕ) → j < first_in_window d → j < n → cells_of_a_place ≤ distance j
   window_before j f l = rw (later_distance highest begin j h b (omega arith)) (omega arith)
 
-  window_behind : (j : ℕ) → end_in_window d n ≤ j → j < n → cells_of_aPlace ≤ distance j
+  window_behind : (j : ℕ) → end_in_window d n ≤ j → j < n → cells_of_a_place ≤ distance j
   window_behind j e l = rw (later_distance highest begin j h b (omega arith)) (omega arith)
 
-  window_in : (j : ℕ) → first_in_window d ≤ j → j < end_in_window d n → distance j < cells_of_aPlace
+  window_in : (j : ℕ) → first_in_window d ≤ j → j < end_in_window d n → distance j < cells_of_a_place
   window_in j f e = rw (later_distance highest begin j h b (omega arith)) (omega arith)
 
 -- ---- the numbers of a block one after the other
@@ -73,7 +73,7 @@ module _ (s : List ℕ) (p highest rts begin from n : ℕ) (cells : List ℕ) (j
   numbers_done l = let none : n - j ≡ 0 = omega arith in rw none
 
   -- a number outside the window changes nothing
-  passed_turn : j < n → cells_of_aPlace ≤ distance_of highest ((begin + j) % sequence_numbers)
+  passed_turn : j < n → cells_of_a_place ≤ distance_of highest ((begin + j) % sequence_numbers)
       → entered_from p highest rts cells begin (j + 1) (metrics_at_of s (from + 2 * (j + 1)) (n - (j + 1)))
       ≡ entered_from p highest rts cells begin j (metrics_at_of s (from + 2 * j) (n - j))
   passed_turn l past =
@@ -87,7 +87,7 @@ module _ (s : List ℕ) (p highest rts begin from n : ℕ) (cells : List ℕ) wh
 
   -- nor do k of them, starting with number j of the block
   passed : (j k : ℕ)
-      → ((i : ℕ) → j ≤ i → i < j + k → i < n → cells_of_aPlace ≤ distance_of highest ((begin + i) % sequence_numbers))
+      → ((i : ℕ) → j ≤ i → i < j + k → i < n → cells_of_a_place ≤ distance_of highest ((begin + i) % sequence_numbers))
       → rest (j + k) ≡ rest j
   passed j zero past = rw (add-zero)
   passed j (suc k) past =

@@ -2,7 +2,7 @@
 -- report makes of the cells.
 use Rattle.std.specs.Prelude.{ℕ, ◌+◌, ◌%◌, cond, List, [], ◌∷◌, ◌++◌, nat_le}
 use Rattle.lists.specs.declared.Found.{Found}
-use Rattle.ring.specs.Ring.{cells_of_aPlace}
+use Rattle.ring.specs.Ring.{cells_of_a_place}
 use Rattle.window.specs.Number.{sequence_numbers, distance_of}
 use Rattle.places.specs.Place.{highest_at, find_of}
 use Rattle.place_window.specs.Window.{updated}
@@ -29,7 +29,7 @@ reports_of (b ∷ bs) = reports_from b.ssrc b.begin 0 b.metrics ++ reports_of bs
 
 -- the word of the number that is b behind the highest one; one that is not in the window is ignored
 unfoldable pub word_in_window : ℕ → ℕ → ℕ → ℕ → ℕ
-word_in_window b metric rts word = cond (nat_le cells_of_aPlace b) word (word_reported metric rts word)
+word_in_window b metric rts word = cond (nat_le cells_of_a_place b) word (word_reported metric rts word)
 
 -- a number of the stream that the place p holds: the word of its cell, and no other
 abbrev pub reported_at : ℕ → ℕ → ℕ → List ℕ → ℕ → ℕ → List ℕ

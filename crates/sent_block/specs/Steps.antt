@@ -1,7 +1,7 @@
 -- The steps of the code: a block whose place is found once. No statement for a caller needs these.
 use Rattle.std.specs.Prelude.{ℕ, ◌+◌, ◌-◌, ◌%◌, min, List, [], ◌∷◌, slice_index, slice_set}
 use Rattle.lists.specs.declared.Found.{Found}
-use Rattle.ring.specs.Ring.{cells_of_aPlace}
+use Rattle.ring.specs.Ring.{cells_of_a_place}
 use Rattle.window.specs.Number.{sequence_numbers}
 use Rattle.places.specs.Place.{highest_at, find_of}
 use Rattle.packet.specs.Packet.{Block}
@@ -12,7 +12,7 @@ use Rattle.lists.specs.declared.Found.TheVariants.{At, Nothing}
 -- the metrics of a block whose numbers are in the window, where the highest number is d above that of
 -- metric 0: from the first up to the end, of n
 abbrev pub first_in_window : ℕ → ℕ
-first_in_window d = d - (cells_of_aPlace - 1)
+first_in_window d = d - (cells_of_a_place - 1)
 
 abbrev pub end_in_window : ℕ → ℕ → ℕ
 end_in_window d n = min n (d + 1)

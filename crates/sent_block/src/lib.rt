@@ -1,6 +1,6 @@
 // Taking in a report block: what it says of each of its numbers is entered at the number's cell.
 ghost use Rattle.std.specs.Prelude.{◌≡◌, ◌+◌, ◌-◌, ◌*◌, ◌<◌, ◌≤◌, min, length};
-ghost use Rattle.ring.specs.Ring.{cells_of_aPlace};
+ghost use Rattle.ring.specs.Ring.{cells_of_a_place};
 ghost use Rattle.packet.specs.Sizes.{most_reports};
 ghost use Rattle.reader.specs.Reading.{metrics_at_of, block_in};
 ghost use Rattle.reports.specs.Reports.{Within};
@@ -29,8 +29,8 @@ fn end_in_window(d: u16, n: u16) -> u16
 
 // So many of n numbers have their cells before the end of the ring, where the first one's is at that slot.
 fn before_the_end(slot: usize, n: usize) -> usize
-    requires slot { slot < cells_of_aPlace }
-    ensures value { result ≡ min n (cells_of_aPlace - slot) }
+    requires slot { slot < cells_of_a_place }
+    ensures value { result ≡ min n (cells_of_a_place - slot) }
 {
     let left = CELLS_OF_A_PLACE - slot;
     if n < left { n } else { left }
@@ -55,7 +55,7 @@ fn enter_run(cells: &mut [u64], at: usize, packet: &[u8], from: usize, n: usize,
 // The window is tested once for the block: its numbers that are in the window lie together, since a block is not long
 // enough to come round to the window again. Their cells are two runs: up to the end of the ring, and from its start.
 fn enter_block(cells: &mut [u64], packet: &[u8], b: ReportBlock, p: usize, highest: u16, rts: u32)
-    requires room { cells_of_aPlace * p + cells_of_aPlace ≤ length cells.old }
+    requires room { cells_of_a_place * p + cells_of_a_place ≤ length cells.old }
     requires within { Within packet.now b }
     requires few { b.num_reports ≤ most_reports }
     ensures content { cells.new ≡ block_entered p highest rts cells.old (block_in packet.now b) }
@@ -77,7 +77,7 @@ fn enter_block(cells: &mut [u64], packet: &[u8], b: ReportBlock, p: usize, highe
 // A block of a packet with that RTS: the place of its stream is found once, and a stream that no place holds is passed
 // over.
 pub fn take_block(places: &[u64], cells: &mut [u64], packet: &[u8], b: ReportBlock, rts: u32)
-    requires sized { length cells.old ≡ cells_of_aPlace * length places.now }
+    requires sized { length cells.old ≡ cells_of_a_place * length places.now }
     requires within { Within packet.now b }
     requires few { b.num_reports ≤ most_reports }
     ensures content { cells.new

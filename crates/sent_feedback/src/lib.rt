@@ -1,6 +1,6 @@
 // Taking in a feedback packet: what it says of the numbers that were registered.
 ghost use Rattle.std.specs.Prelude.{◌≡◌, ◌*◌, length};
-ghost use Rattle.ring.specs.Ring.{cells_of_aPlace};
+ghost use Rattle.ring.specs.Ring.{cells_of_a_place};
 ghost use Rattle.walk.specs.Walk.{walk_from};
 ghost use Rattle.sent_feedback.specs.TakeIn.{cells_after, taken_in};
 ghost use Rattle.sent_feedback.specs.Steps.{NotStopped, blocks_taken};
@@ -20,7 +20,7 @@ pub enum TakingIn {
 
 // Block by block, starting at a cursor, a packet that the reader accepts.
 fn take_blocks(places: &[u64], cells: &mut [u64], packet: &[u8], from: Cursor, rts: u32)
-    requires sized { length cells.old ≡ cells_of_aPlace * length places.now }
+    requires sized { length cells.old ≡ cells_of_a_place * length places.now }
     requires sound { NotStopped (walk_from packet.now from.at) }
     ensures content { cells.new
         ≡ blocks_taken places.now rts packet.now cells.old (walk_from packet.now from.at) }

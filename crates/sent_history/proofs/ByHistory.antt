@@ -10,7 +10,7 @@ use Rattle.lists.specs.All.{All}
 use Rattle.lists.specs.declared.Found.{Found}
 use Rattle.lists.proofs.Cases.{never}
 use Rattle.lists.proofs.First.{first_true}
-use Rattle.ring.specs.Ring.{cells_of_aPlace}
+use Rattle.ring.specs.Ring.{cells_of_a_place}
 use Rattle.window.specs.Number.{sequence_numbers}
 use Rattle.places.specs.Place.{place_at, is_stream, find_of}
 use Rattle.places.specs.Held.{HeldAt}
@@ -44,12 +44,12 @@ use Rattle.sent_word.specs.declared.Sent.TheVariants as sent
 use Rattle.sent_status.specs.declared.StatusAnswer.TheVariants as answer
 
 -- each number of a window has its full number back, and its status by it
-full_of_window : (top n : ℕ) → sequence_numbers ≤ top → n ≤ top → top < n + cells_of_aPlace → full_of top (n % sequence_numbers) ≡ n
+full_of_window : (top n : ℕ) → sequence_numbers ≤ top → n ≤ top → top < n + cells_of_a_place → full_of top (n % sequence_numbers) ≡ n
 full_of_window top n g a b =
     let f = full_behind top (n % sequence_numbers) g (omega arith) (λ l. omega arith) in
     omega arith
 
-window_status : (x top n : ℕ) (es : List Entry) → sequence_numbers ≤ top → n ≤ top → top < n + cells_of_aPlace
+window_status : (x top n : ℕ) (es : List Entry) → sequence_numbers ≤ top → n ≤ top → top < n + cells_of_a_place
     → model_status (stream x top es) (n % sequence_numbers) ≡ answer_of (shown_by es n)
 window_status x top n es g a b = rw (full_of_window top n g a b) (shown_at_lem top n es a b)
 
@@ -139,11 +139,11 @@ module _ (st : Store) (new : Fresh st) (cs : List Call) (range : All CallInRange
       highest_by_history = held_by_history.place
 
       -- each word of the window says what was reported, sentence by sentence
-      pub word_by_history : (n : ℕ) → n ≤ top → top < n + cells_of_aPlace → AsReported (read_word_of (cell_at after.cells p n)) entries n
+      pub word_by_history : (n : ℕ) → n ≤ top → top < n + cells_of_a_place → AsReported (read_word_of (cell_at after.cells p n)) entries n
       word_by_history n a b = rw (held_by_history.window n a b) (as_reported entries n)
 
       -- and the call answers with it: whatever the sentences hold of is the answer
-      pub status_as_reported : (n : ℕ) → n ≤ top → top < n + cells_of_aPlace → (a : Sent) → AsReported a entries n
+      pub status_as_reported : (n : ℕ) → n ≤ top → top < n + cells_of_a_place → (a : Sent) → AsReported a entries n
           → status_asked after.places after.cells ssrc (n % sequence_numbers) ≡ answer_of a
       status_as_reported n a b s r =
           let e = held_there.1.1.1 in
@@ -153,7 +153,7 @@ module _ (st : Store) (new : Fresh st) (cs : List Call) (range : All CallInRange
           (window_status ssrc held_there.0 n held_there.1.0 (rw top_there at held_by_history.begun) (rw top_there at a) (rw top_there at b))
 
       -- 37 is not the answer about a number of the window exactly if an accepted registration had its full number
-      pub known_if_sent : (n : ℕ) → n ≤ top → top < n + cells_of_aPlace → Memᴰ n (fulls_of (sent_in history))
+      pub known_if_sent : (n : ℕ) → n ≤ top → top < n + cells_of_a_place → Memᴰ n (fulls_of (sent_in history))
           → status_asked after.places after.cells ssrc (n % sequence_numbers) ≡ answer.Refused NotRegistered → ⊥
       known_if_sent n a b m h =
           let there = registered_are entries n (rw (by_registrations ssrc history).entered m) in
@@ -164,7 +164,7 @@ module _ (st : Store) (new : Fresh st) (cs : List Call) (range : All CallInRange
           unknown sent.NotRegistered e = refl
           unknown (sent.Registered s) e = never (cc)
 
-      pub sent_if_known : (n : ℕ) → n ≤ top → top < n + cells_of_aPlace → (s : Status)
+      pub sent_if_known : (n : ℕ) → n ≤ top → top < n + cells_of_a_place → (s : Status)
           → status_asked after.places after.cells ssrc (n % sequence_numbers) ≡ answer.Known s → Memᴰ n (fulls_of (sent_in history))
       sent_if_known n a b s h =
           let shown = known (shown_by entries n) (sym (status_as_reported n a b (shown_by entries n) (as_reported entries n)) ∙ h) in

@@ -12,7 +12,7 @@ use Rattle.lists.specs.declared.Found.{Found}
 use Rattle.lists.proofs.All.{all_join}
 use Rattle.lists.proofs.First.{first_true}
 use Rattle.metric.specs.Metric.{decode_of}
-use Rattle.ring.specs.Ring.{cells_of_aPlace}
+use Rattle.ring.specs.Ring.{cells_of_a_place}
 use Rattle.window.specs.Number.{distance_of, sequence_numbers, farthest_ahead}
 use Rattle.places.specs.Place.{place_at, highest_at, find_of}
 use Rattle.places.proofs.Held.{held_highest}
@@ -115,7 +115,7 @@ module _ (top full : ℕ) (es : List Entry) where
   abbrev unless : Bool → StatusAnswer
   unless behind = cond behind (within (is_too_old top full)) (answer.Refused NotRegistered)
 
-  pub shown_at_lem : full ≤ top → top < full + cells_of_aPlace → shown_at top full es ≡ answer_of (shown_by es full)
+  pub shown_at_lem : full ≤ top → top < full + cells_of_a_place → shown_at top full es ≡ answer_of (shown_by es full)
   unfolding shown_at
   shown_at_lem a b = ap unless (le-leb full top a) ∙ ap within (not_too_old top full b)
 
@@ -123,7 +123,7 @@ module _ (top full : ℕ) (es : List Entry) where
   unfolding shown_at
   shown_ahead a = ap unless (lt-leb full top a)
 
-  shown_old : full + cells_of_aPlace ≤ top → shown_at top full es ≡ answer.Refused NotRegistered
+  shown_old : full + cells_of_a_place ≤ top → shown_at top full es ≡ answer.Refused NotRegistered
   unfolding shown_at
   shown_old a = ap unless (le-leb full top (omega arith)) ∙ ap within (too_old_lem top full a)
 
@@ -134,7 +134,7 @@ module _ (st : Store) (ps : List (Place Entry)) (R : Reads sent_meaning st ps) (
       let S : Holds sent_meaning st.cells k (place_at st.places k) ssrc top es = rw held at (R.each k) in
       let g = S.begun in
       let high : highest_at st.places k ≡ top % sequence_numbers = held_highest (get_or st.places k 0) ssrc (top % sequence_numbers) S.place in
-      elim (dec_lt (distance_of (top % sequence_numbers) number) cells_of_aPlace) [
+      elim (dec_lt (distance_of (top % sequence_numbers) number) cells_of_a_place) [
         | yes b ↦
             let full = full_behind top number g low (λ l. omega arith) in
             let slot = same_slot (full_of top number) number (full_low top number g low) in

@@ -9,7 +9,7 @@ use lib.Seq.{set-get_or}
 use Rattle.lists.proofs.Cases.{never}
 use Rattle.refusal.specs.Numbers.{number_of}
 use Rattle.refusal.specs.declared.Refusal.{Refusal}
-use Rattle.ring.specs.Ring.{cells_of_aPlace}
+use Rattle.ring.specs.Ring.{cells_of_a_place}
 use Rattle.window.specs.Number.{sequence_numbers, distance_of, move_of}
 use Rattle.window.proofs.Number.{move_within}
 use Rattle.places.specs.Place.{highest_at}
@@ -70,7 +70,7 @@ module _ (places cells : List ℕ) (ssrc number : ℕ) where
   -- ---- registering again
 
   -- a number of the window is not ahead of the highest one
-  in_window : (p high : ℕ) → HeldAt places ssrc p high → number < sequence_numbers → distance_of high number < cells_of_aPlace
+  in_window : (p high : ℕ) → HeldAt places ssrc p high → number < sequence_numbers → distance_of high number < cells_of_a_place
       → move_of (highest_at places p) number ≡ Within (distance_of (highest_at places p) number)
   in_window p high K low l =
       let k = (held_found places ssrc p high K).1 in
@@ -85,7 +85,7 @@ module _ (places cells : List ℕ) (ssrc number : ℕ) where
 
   -- a number that is registered and in the window is accepted again, and nothing changes
   pub again_kept : Shaped places cells → (p high : ℕ) → HeldAt places ssrc p high → number < sequence_numbers
-      → distance_of high number < cells_of_aPlace → (s : Status) → read_word_of (cell_at cells p number) ≡ sent.Registered s
+      → distance_of high number < cells_of_a_place → (s : Status) → read_word_of (cell_at cells p number) ≡ sent.Registered s
       → registered places cells ssrc number ≡ store_after Accepted places cells
   again_kept h p high K low l s e =
       rw (shaped_is places cells h, (held_found places ssrc p high K).0)

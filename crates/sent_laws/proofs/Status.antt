@@ -9,7 +9,7 @@ use Rattle.lists.specs.declared.Found.{Found}
 use Rattle.lists.proofs.Cases.{never, split_le}
 use Rattle.refusal.specs.Numbers.{number_of}
 use Rattle.refusal.specs.declared.Refusal.{Refusal}
-use Rattle.ring.specs.Ring.{cells_of_aPlace}
+use Rattle.ring.specs.Ring.{cells_of_a_place}
 use Rattle.window.specs.Number.{distance_of}
 use Rattle.places.specs.Place.{highest_at, find_of}
 use Rattle.places.specs.Shape.{Shaped}
@@ -48,14 +48,14 @@ module _ (places cells : List ℕ) (ssrc number : ℕ) where
       rw (held_status_lem s p high K, status_within cells p number (distance_of high number) (omega arith), e)
 
   module _ (s : Shaped places cells) where
-    word_given : (p high : ℕ) → HeldAt places ssrc p high → distance_of high number < cells_of_aPlace
+    word_given : (p high : ℕ) → HeldAt places ssrc p high → distance_of high number < cells_of_a_place
         → (w : Sent) → read_word_of (cell_at cells p number) ≡ w → StatusGiven places cells ssrc number (answer_of w)
     word_given p high K l sent.NotRegistered e = StatusGiven.not_registered s p high K l e
     word_given p high K l (sent.Registered x) e = StatusGiven.known s p high K l x e
 
     held_given : (p high : ℕ) → HeldAt places ssrc p high → StatusGiven places cells ssrc number (status_at cells p number (distance_of high number))
     held_given p high K =
-        split_le cells_of_aPlace (distance_of high number)
+        split_le cells_of_a_place (distance_of high number)
         (λ l. rw (status_past cells p number (distance_of high number) l) (StatusGiven.outside s p high K (omega arith)))
         (λ l. rw (status_within cells p number (distance_of high number) l) (word_given p high K (omega arith) (read_word_of (cell_at cells p number)) refl))
 

@@ -3,7 +3,7 @@
 -- the first is given, in the order that stands at each call.
 use Rattle.std.specs.Prelude.{ℕ, ◌≤◌, ◌<◌, ◌≡◌, List, [], ◌∷◌}
 use Rattle.refusal.specs.declared.Refusal.{Refusal}
-use Rattle.ring.specs.Ring.{cells_of_aPlace}
+use Rattle.ring.specs.Ring.{cells_of_a_place}
 use Rattle.window.specs.Number.{distance_of}
 use Rattle.places.specs.Shape.{Shaped, Misshapen}
 use Rattle.places.specs.Held.{Unheld, HeldAt}
@@ -36,11 +36,11 @@ pub data RegistrationGiven (places cells : List ℕ) (ssrc number : ℕ) : Store
 pub data StatusGiven (places cells : List ℕ) (ssrc number : ℕ) : StatusAnswer → Type 0 where
   bad_store : Misshapen places cells → StatusGiven places cells ssrc number (answer.Refused BadStore)
   not_held : Shaped places cells → Unheld places ssrc → StatusGiven places cells ssrc number (answer.Refused NotHeld)
-  outside : Shaped places cells → (p high : ℕ) → HeldAt places ssrc p high → cells_of_aPlace ≤ distance_of high number
+  outside : Shaped places cells → (p high : ℕ) → HeldAt places ssrc p high → cells_of_a_place ≤ distance_of high number
       → StatusGiven places cells ssrc number (answer.Refused NotRegistered)
-  not_registered : Shaped places cells → (p high : ℕ) → HeldAt places ssrc p high → distance_of high number < cells_of_aPlace
+  not_registered : Shaped places cells → (p high : ℕ) → HeldAt places ssrc p high → distance_of high number < cells_of_a_place
       → read_word_of (cell_at cells p number) ≡ sent.NotRegistered → StatusGiven places cells ssrc number (answer.Refused NotRegistered)
-  known : Shaped places cells → (p high : ℕ) → HeldAt places ssrc p high → distance_of high number < cells_of_aPlace → (s : Status)
+  known : Shaped places cells → (p high : ℕ) → HeldAt places ssrc p high → distance_of high number < cells_of_a_place → (s : Status)
       → read_word_of (cell_at cells p number) ≡ sent.Registered s → StatusGiven places cells ssrc number (answer.Known s)
 
 -- taking in: 4, then the reader's. A refused packet leaves the cells as they were; a packet is taken

@@ -5,7 +5,7 @@ use mathlib.Core.Bool.{true, false}
 use mathlib.Core.List.{List}
 use native.Mathlib.Omega.{arith}
 use lib.ListN.{set}
-use Rattle.ring.specs.Ring.{cells_of_aPlace}
+use Rattle.ring.specs.Ring.{cells_of_a_place}
 use Rattle.places.specs.Place.{place_word, find_of, free_of}
 use Rattle.places.specs.Shape.{shaped, Ready}
 use Rattle.places.specs.After.{store_after}
@@ -32,10 +32,10 @@ module _ (places cells : List ℕ) (ssrc number : ℕ) where
     registered_held p f = rw (s, f)
 
     pub registered_first : (p : ℕ) → find_of places ssrc ≡ Nothing → free_of places ≡ At p → Ready places cells p
-        → store_after Accepted (set places p (place_word ssrc number)) (opened cells p number cells_of_aPlace not_reported)
+        → store_after Accepted (set places p (place_word ssrc number)) (opened cells p number cells_of_a_place not_reported)
         ≡ registered places cells ssrc number
     registered_first p f o r =
-        moved_opened Accepted Refused registered_word not_reported of_empty places cells p ssrc number r cells_of_aPlace (omega arith) (omega arith)
+        moved_opened Accepted Refused registered_word not_reported of_empty places cells p ssrc number r cells_of_a_place (omega arith) (omega arith)
         ∙ rw (s, f, o)
 
     pub registered_full : find_of places ssrc ≡ Nothing → free_of places ≡ Nothing

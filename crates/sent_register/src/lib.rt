@@ -1,7 +1,7 @@
 // Registering a sent number: of a stream that a place holds, or the first of a new one. The window of a stream moves as
 // that of arrivals does.
 ghost use Rattle.std.specs.Prelude.{◌≡◌, ◌+◌, ◌*◌, ◌≤◌, length};
-ghost use Rattle.ring.specs.Ring.{cells_of_aPlace};
+ghost use Rattle.ring.specs.Ring.{cells_of_a_place};
 ghost use Rattle.places.specs.Shape.{Ready};
 ghost use Rattle.places.specs.After.{store_after};
 ghost use Rattle.place_window.specs.Window.{updated, continued};
@@ -23,7 +23,7 @@ pub enum Registration {
 
 // Registers a number of the window at its cell.
 fn enter(cells: &mut [u64], p: usize, number: u16)
-    requires room { cells_of_aPlace * p + cells_of_aPlace ≤ length cells.old }
+    requires room { cells_of_a_place * p + cells_of_a_place ≤ length cells.old }
     ensures content { cells.new ≡ updated registered_word cells.old p number }
 {
     let at = place_window::cell_index(p, number);

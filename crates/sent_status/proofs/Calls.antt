@@ -4,7 +4,7 @@ use mathlib.Core.Path.{◌≡◌}
 use mathlib.Core.Bool.{true, false}
 use mathlib.Core.List.{List}
 use borrow.Author.Tests.{le-leb, lt-leb}
-use Rattle.ring.specs.Ring.{cells_of_aPlace}
+use Rattle.ring.specs.Ring.{cells_of_a_place}
 use Rattle.window.specs.Number.{distance_of}
 use Rattle.places.specs.Place.{highest_at, find_of}
 use Rattle.places.specs.Shape.{shaped}
@@ -17,13 +17,13 @@ use Rattle.sent_status.specs.declared.StatusAnswer.TheVariants.{Refused}
 
 -- of the number that is b behind the highest one
 module _ (cells : List ℕ) (p number b : ℕ) where
-  pub status_past : cells_of_aPlace ≤ b → status_at cells p number b ≡ Refused NotRegistered
+  pub status_past : cells_of_a_place ≤ b → status_at cells p number b ≡ Refused NotRegistered
   unfolding status_at
-  status_past l = rw (le-leb cells_of_aPlace b l)
+  status_past l = rw (le-leb cells_of_a_place b l)
 
-  pub status_within : b < cells_of_aPlace → status_at cells p number b ≡ answer_of (read_word_of (cell_at cells p number))
+  pub status_within : b < cells_of_a_place → status_at cells p number b ≡ answer_of (read_word_of (cell_at cells p number))
   unfolding status_at
-  status_within l = rw (lt-leb cells_of_aPlace b l)
+  status_within l = rw (lt-leb cells_of_a_place b l)
 
 module _ (places cells : List ℕ) (ssrc number : ℕ) where
   pub asked_misshapen : shaped places cells ≡ false → Refused BadStore ≡ status_asked places cells ssrc number

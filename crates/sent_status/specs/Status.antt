@@ -2,7 +2,7 @@
 -- Refusals 4, 5, 37.
 use Rattle.std.specs.Prelude.{ℕ, cond, List, leb}
 use Rattle.lists.specs.declared.Found.{Found}
-use Rattle.ring.specs.Ring.{cells_of_aPlace}
+use Rattle.ring.specs.Ring.{cells_of_a_place}
 use Rattle.window.specs.Number.{distance_of}
 use Rattle.places.specs.Place.{highest_at, find_of}
 use Rattle.places.specs.Shape.{shaped}
@@ -21,7 +21,7 @@ answer_of (sent.Registered s) = Known s
 
 -- rule "Asking": of the number that is b behind the highest one; 37 also where it is not in the window
 unfoldable pub status_at : List ℕ → ℕ → ℕ → ℕ → StatusAnswer
-status_at cells p number b = cond (leb cells_of_aPlace b) (Refused NotRegistered) (answer_of (read_word_of (cell_at cells p number)))
+status_at cells p number b = cond (leb cells_of_a_place b) (Refused NotRegistered) (answer_of (read_word_of (cell_at cells p number)))
 
 abbrev pub asked_at : Found → List ℕ → List ℕ → ℕ → StatusAnswer
 asked_at (At p) places cells number = status_at cells p number (distance_of (highest_at places p) number)

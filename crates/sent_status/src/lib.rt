@@ -1,6 +1,6 @@
 // What feedback has said of a sent number.
 ghost use Rattle.std.specs.Prelude.{◌≡◌, ◌+◌, ◌*◌, ◌≤◌, length};
-ghost use Rattle.ring.specs.Ring.{cells_of_aPlace};
+ghost use Rattle.ring.specs.Ring.{cells_of_a_place};
 ghost use Rattle.sent_status.specs.Status.{status_at, status_asked};
 
 use lists::Found;
@@ -17,7 +17,7 @@ pub enum StatusAnswer {
 
 // What is known of the number that is b behind the highest of the stream at the place p: refusal 37.
 fn status_at(cells: &[u64], p: usize, number: u16, b: u16) -> StatusAnswer
-    requires room { cells_of_aPlace * p + cells_of_aPlace ≤ length cells.now }
+    requires room { cells_of_a_place * p + cells_of_a_place ≤ length cells.now }
     ensures value { result ≡ status_at cells.now p number b }
 {
     if CELLS_OF_A_PLACE <= (b as usize) {

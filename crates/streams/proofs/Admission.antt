@@ -12,7 +12,7 @@ use Rattle.lists.specs.declared.Found.{Found}
 use Rattle.lists.proofs.First.{first_true}
 use Rattle.lists.proofs.All.{all_append, all_map}
 use Rattle.refusal.specs.declared.Refusal.{Refusal}
-use Rattle.ring.specs.Ring.{cells_of_aPlace}
+use Rattle.ring.specs.Ring.{cells_of_a_place}
 use Rattle.window.specs.Number.{distance_of, move_of, farthest_ahead, sequence_numbers}
 use Rattle.window.specs.declared.Move.{Move}
 use Rattle.window.proofs.Number.{move_ahead, move_within, move_old}
@@ -33,7 +33,7 @@ use Rattle.lists.specs.declared.Found.TheVariants.{At, Nothing}
 use Rattle.window.specs.declared.Move.TheVariants as move
 use Rattle.places.specs.declared.Holding.TheVariants.{Held}
 
-in_and_below : (x m : ℕ) → x < m + cells_of_aPlace → m + cells_of_aPlace ≤ x → ⊥
+in_and_below : (x m : ℕ) → x < m + cells_of_a_place → m + cells_of_a_place ≤ x → ⊥
 in_and_below x m a b = omega arith
 
 module _ {E C : Type 0} (M : Meaning E C) where
@@ -47,7 +47,7 @@ module _ {E C : Type 0} (M : Meaning E C) where
       (f : ℕ → ℕ) (entry : ℕ → E) (own : (n : ℕ) → M.full (entry n) ≡ n) (enters : (n : ℕ) → Enters M f (entry n))
       (ssrc number : ℕ) (numberLow : number < sequence_numbers) where
     module _ (k : ℕ) (there : k < length st.places) where
-      room : cells_of_aPlace * k + cells_of_aPlace ≤ length st.cells
+      room : cells_of_a_place * k + cells_of_a_place ≤ length st.cells
       room = let h = R.shape.sized in omega arith
 
       -- the entries with one more, where each of them has a property and that one has it
@@ -56,10 +56,10 @@ module _ {E C : Type 0} (M : Meaning E C) where
       all_entered P es full h p = all_append (λ (e : E). P (M.full e)) es (entry full) h (rw (own full) p)
 
       -- the window with one more entry
-      entered : (cells : List ℕ) (top full : ℕ) (es : List E) → cells_of_aPlace * k + cells_of_aPlace ≤ length cells
-          → full % sequence_numbers ≡ number → full ≤ top → top < full + cells_of_aPlace
-          → ((m : ℕ) → m ≤ top → top < m + cells_of_aPlace → M.read (cell_at cells k m) ≡ M.shown es m)
-          → (m : ℕ) → m ≤ top → top < m + cells_of_aPlace
+      entered : (cells : List ℕ) (top full : ℕ) (es : List E) → cells_of_a_place * k + cells_of_a_place ≤ length cells
+          → full % sequence_numbers ≡ number → full ≤ top → top < full + cells_of_a_place
+          → ((m : ℕ) → m ≤ top → top < m + cells_of_a_place → M.read (cell_at cells k m) ≡ M.shown es m)
+          → (m : ℕ) → m ≤ top → top < m + cells_of_a_place
           → M.read (cell_at (updated f cells k number) k m) ≡ M.shown (es ++ (entry full ∷ [])) m
       entered cells top full es large low le lt before =
           let o = own full in
@@ -67,7 +67,7 @@ module _ {E C : Type 0} (M : Meaning E C) where
 
       -- a number of the window
       within : (top full : ℕ) (es : List E) → Holds M st.cells k (place_at st.places k) ssrc top es
-          → full % sequence_numbers ≡ number → full ≤ top → top < full + cells_of_aPlace
+          → full % sequence_numbers ≡ number → full ≤ top → top < full + cells_of_a_place
           → Reads M (record { places = st.places; cells = updated f st.cells k number }) (set ps k (stream ssrc top (es ++ (entry full ∷ []))))
       within top full es S low le lt =
           replaced M st ps R k st.places (updated f st.cells k number) (stream ssrc top (es ++ (entry full ∷ []))) there refl
@@ -81,8 +81,8 @@ module _ {E C : Type 0} (M : Meaning E C) where
           })
 
       -- a number ahead, or the first: n numbers come into the window
-      moved_on : ssrc < 2 ^ 32 → (full n : ℕ) (es : List E) → full % sequence_numbers ≡ number → sequence_numbers ≤ full → n ≤ cells_of_aPlace
-          → ((m : ℕ) → m ≤ full → full < m + cells_of_aPlace → m + n ≤ full → M.read (cell_at st.cells k m) ≡ M.shown es m)
+      moved_on : ssrc < 2 ^ 32 → (full n : ℕ) (es : List E) → full % sequence_numbers ≡ number → sequence_numbers ≤ full → n ≤ cells_of_a_place
+          → ((m : ℕ) → m ≤ full → full < m + cells_of_a_place → m + n ≤ full → M.read (cell_at st.cells k m) ≡ M.shown es m)
           → ((m : ℕ) → m ≤ full → full < m + n → M.shown es m ≡ M.read 0)
           → All (λ (e : E). M.full e ≤ full) es → All (λ (e : E). lowest_full ≤ M.full e) es
           → Reads M
@@ -118,7 +118,7 @@ module _ {E C : Type 0} (M : Meaning E C) where
         high = held_highest (get_or st.places k 0) ssrc (top % sequence_numbers) S.place
 
         -- what is noted of a number of the window changes its cell
-        note_within : distance_of (top % sequence_numbers) number < cells_of_aPlace
+        note_within : distance_of (top % sequence_numbers) number < cells_of_a_place
             → Reads M (record { places = st.places; cells = updated f st.cells k number }) (noted_at entry ps k ssrc (full_of top number))
         note_within b =
             let g = S.begun in
@@ -131,7 +131,7 @@ module _ {E C : Type 0} (M : Meaning E C) where
             (within top (full_of top number) es S (full_low top number g numberLow) (omega arith) (omega arith))
 
         -- and nothing where it is not in the window
-        note_past : cells_of_aPlace ≤ distance_of (top % sequence_numbers) number → Reads M st (noted_at entry ps k ssrc (full_of top number))
+        note_past : cells_of_a_place ≤ distance_of (top % sequence_numbers) number → Reads M st (noted_at entry ps k ssrc (full_of top number))
         note_past b =
             let g = S.begun in
             elim (dec_le (distance_of number (top % sequence_numbers)) farthest_ahead) [
@@ -145,14 +145,14 @@ module _ {E C : Type 0} (M : Meaning E C) where
 
         -- both in one: the cells are changed where the number is in the window, and there alone
         note_at : (cells' : List ℕ)
-            → (distance_of (highest_at st.places k) number < cells_of_aPlace → cells' ≡ updated f st.cells k number)
-            → (cells_of_aPlace ≤ distance_of (highest_at st.places k) number → cells' ≡ st.cells)
+            → (distance_of (highest_at st.places k) number < cells_of_a_place → cells' ≡ updated f st.cells k number)
+            → (cells_of_a_place ≤ distance_of (highest_at st.places k) number → cells' ≡ st.cells)
             → Reads M (record { places = st.places; cells = cells' }) (noted_at entry ps k ssrc (full_of top number))
         note_at cells' inside outside =
-            elim (dec_lt (distance_of (top % sequence_numbers) number) cells_of_aPlace) [
+            elim (dec_lt (distance_of (top % sequence_numbers) number) cells_of_a_place) [
               | yes b ↦ rw (inside (rw high b)) (note_within b)
               | no b ↦
-                  let l : cells_of_aPlace ≤ distance_of (top % sequence_numbers) number = omega arith in
+                  let l : cells_of_a_place ≤ distance_of (top % sequence_numbers) number = omega arith in
                   rw (outside (rw high l)) (note_past l)
             ]
 
@@ -168,8 +168,8 @@ module _ {E C : Type 0} (M : Meaning E C) where
     -- something noted of a number of a stream: cells that are changed where it is in the window, and there alone, read as
     -- the machine then says
     pub note_alike : (k : ℕ) → find_of st.places ssrc ≡ At k → (cells' : List ℕ)
-        → (distance_of (highest_at st.places k) number < cells_of_aPlace → cells' ≡ updated f st.cells k number)
-        → (cells_of_aPlace ≤ distance_of (highest_at st.places k) number → cells' ≡ st.cells)
+        → (distance_of (highest_at st.places k) number < cells_of_a_place → cells' ≡ updated f st.cells k number)
+        → (cells_of_a_place ≤ distance_of (highest_at st.places k) number → cells' ≡ st.cells)
         → Reads M (record { places = st.places; cells = cells' }) (noted entry ps ssrc number)
     note_alike k found cells' inside outside =
         let n = found_named k found in
@@ -195,7 +195,7 @@ module _ {E C : Type 0} (M : Meaning E C) where
               sym (continued_by accepted refused f st.places st.cells k ssrc number m
               (ap (λ (h : ℕ). move_of h number) (high k there top es held) ∙ e))
 
-          as_old : farthest_ahead < distance_of number (top % sequence_numbers) → cells_of_aPlace ≤ distance_of (top % sequence_numbers) number → Goal (full_of top number)
+          as_old : farthest_ahead < distance_of number (top % sequence_numbers) → cells_of_a_place ≤ distance_of (top % sequence_numbers) number → Goal (full_of top number)
           as_old d b =
               let g = holding.begun in
               let full = full_behind top number g numberLow (λ l. d) in
@@ -206,7 +206,7 @@ module _ {E C : Type 0} (M : Meaning E C) where
               (record { answer = refl; reads = R })
 
           as_within : (0 < distance_of number (top % sequence_numbers) → farthest_ahead < distance_of number (top % sequence_numbers))
-              → distance_of (top % sequence_numbers) number < cells_of_aPlace → Goal (full_of top number)
+              → distance_of (top % sequence_numbers) number < cells_of_a_place → Goal (full_of top number)
           as_within d b =
               let g = holding.begun in
               let full = full_behind top number g numberLow d in
@@ -232,7 +232,7 @@ module _ {E C : Type 0} (M : Meaning E C) where
               (record {
                 answer = refl;
                 reads =
-                    moved_on k there ssrcLow (full_of top number) (min (distance_of number (top % sequence_numbers)) cells_of_aPlace) es
+                    moved_on k there ssrcLow (full_of top number) (min (distance_of number (top % sequence_numbers)) cells_of_a_place) es
                     (full_low top number g numberLow) (omega arith) (omega arith)
                     (λ m x y z. holding.window m (omega arith) (omega arith))
                     (λ m x y. silent_above M laws top m es holding.highest (omega arith))
@@ -249,7 +249,7 @@ module _ {E C : Type 0} (M : Meaning E C) where
                       | no z ↦ as_ahead (omega arith) d
                     ]
                 | no d ↦
-                    elim (dec_lt (distance_of (top % sequence_numbers) number) cells_of_aPlace) [
+                    elim (dec_lt (distance_of (top % sequence_numbers) number) cells_of_a_place) [
                       | yes b ↦ as_within (λ l. omega arith) b
                       | no b ↦ as_old (omega arith) (omega arith)
                     ]
@@ -257,14 +257,14 @@ module _ {E C : Type 0} (M : Meaning E C) where
 
         -- a new stream
         started_alike : at ps k ≡ free
-            → Alike (moved accepted refused f st.places st.cells k ssrc number cells_of_aPlace) (started_in accepted refused entry (At k) ps ssrc number)
+            → Alike (moved accepted refused f st.places st.cells k ssrc number cells_of_a_place) (started_in accepted refused entry (At k) ps ssrc number)
         unfolding moved
         started_alike vacancy =
             let same : max 0 (first_full number) ≡ first_full number = omega arith in
             rw (added_to entry ps k ssrc (first_full number) free (first_full number) vacancy same)
             (record {
               answer = refl;
-              reads = moved_on k there ssrcLow (first_full number) cells_of_aPlace [] (omega arith) (omega arith) (omega arith)
+              reads = moved_on k there ssrcLow (first_full number) cells_of_a_place [] (omega arith) (omega arith) (omega arith)
                   (λ m x y z. absurd (in_and_below (first_full number) m y z)) (λ m x y. laws.silent [] m tt) tt tt;
             })
 

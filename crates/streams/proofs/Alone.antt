@@ -10,7 +10,7 @@ use lib.ListN.{length, set}
 use Rattle.lists.specs.declared.Found.{Found}
 use Rattle.lists.proofs.First.{first_below, first_true}
 use Rattle.refusal.specs.declared.Refusal.{Refusal}
-use Rattle.ring.specs.Ring.{cells_of_aPlace}
+use Rattle.ring.specs.Ring.{cells_of_a_place}
 use Rattle.streams.specs.Full.{full_of, first_full}
 use Rattle.streams.specs.Model.{Place, free, stream, names, is_vacant, at, find_in, vacant_in, found_in, stream_in}
 use Rattle.streams.specs.Model.{vacant, noted_at, noted_in, noted, later_at, started_in, admitted_in, admitted}
@@ -84,7 +84,7 @@ module _ {E : Type 0} where
               let same : Only ps x ps (stream x top es) = rw (← held, ← found_stream ps once x (At k) e) (same_only ps once x) in
               elim (dec_le (full_of top number) top) [
                 | yes l ↦
-                    elim (dec_le (full_of top number + cells_of_aPlace) top) [
+                    elim (dec_le (full_of top number + cells_of_a_place) top) [
                       | yes h ↦
                           rw (
                             le-leb (full_of top number) top l,
@@ -93,7 +93,7 @@ module _ {E : Type 0} where
                           )
                           same
                       | no h ↦
-                          let i : top < full_of top number + cells_of_aPlace = omega arith in
+                          let i : top < full_of top number + cells_of_a_place = omega arith in
                           rw (
                             le-leb (full_of top number) top l,
                             not_too_old top (full_of top number) i,
@@ -121,10 +121,10 @@ module _ {E : Type 0} where
                 → Admitted entry accepted refused ps x number (later_at accepted refused entry ps k x (full_of top number))
             at_place k top es e held =
                 let s : stream_in ps x ≡ stream x top es = found_stream ps once x (At k) e ∙ held in
-                elim (dec_le (full_of top number + cells_of_aPlace) top) [
+                elim (dec_le (full_of top number + cells_of_a_place) top) [
                   | yes h ↦ rw (later_old entry ps k x (full_of top number) accepted refused (rw held h)) (kept TooOld)
                   | no h ↦
-                      let i : top < full_of top number + cells_of_aPlace = omega arith in
+                      let i : top < full_of top number + cells_of_a_place = omega arith in
                       rw (later_in entry ps k x (full_of top number) accepted refused (rw held i), held)
                       (entered (set ps k (with_one entry x (stream x top es) (full_of top number)))
                       (rw s (found_only ps once x k e (with_one entry x (stream x top es) (full_of top number)) (names_own x (stream x top es) (full_of top number)))))

@@ -3,7 +3,7 @@ use Prim.Native.Nat.{ℕ, zero, suc, ◌*◌, ◌<◌, ◌≤◌}
 use mathlib.Core.Path.{◌≡◌, refl, ap, ◌∙◌}
 use mathlib.Core.List.{List}
 use lib.ListN.{length, get_or, replicate, length-replicate}
-use Rattle.ring.specs.Ring.{cells_of_aPlace}
+use Rattle.ring.specs.Ring.{cells_of_a_place}
 use Rattle.places.specs.Place.{read_place}
 use Rattle.places.specs.Shape.{most_places}
 use Rattle.places.proofs.Places.{read_zero}
@@ -26,7 +26,7 @@ fresh_reads M st new = record {
 }
 
 -- places of zeros are a fresh store, whatever the cells hold
-pub zeroed_fresh : (n : ℕ) (cells : List ℕ) → 0 < n → n ≤ most_places → length cells ≡ cells_of_aPlace * n
+pub zeroed_fresh : (n : ℕ) (cells : List ℕ) → 0 < n → n ≤ most_places → length cells ≡ cells_of_a_place * n
     → Fresh (record { places = replicate n 0; cells = cells })
 zeroed_fresh n cells l h e = record {
   shape = let s = length-replicate {A = ℕ} n 0 in record { some = rw s l; few = rw s h; sized = rw s e };

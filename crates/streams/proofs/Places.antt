@@ -12,7 +12,7 @@ use lib.Seq.{get_or-set_same, get_or-set_other}
 use Rattle.lists.specs.First.{first_from}
 use Rattle.lists.proofs.First.{first_cong, first_below}
 use Rattle.refusal.specs.declared.Refusal.{Refusal}
-use Rattle.ring.specs.Ring.{cells_of_aPlace}
+use Rattle.ring.specs.Ring.{cells_of_a_place}
 use Rattle.places.specs.Place.{read_place, place_at, is_stream, is_free, find_of, free_of}
 use Rattle.places.specs.declared.Holding.{Holding}
 use Rattle.place_window.specs.Window.{cell_at}
@@ -38,11 +38,11 @@ untaken b x y e = rw e
 
 module _ {E : Type 0} (entry : ℕ → E) (ps : List (Place E)) (k ssrc full : ℕ) where
   module _ {A : Type 0} (accepted : A) (refused : Refusal → A) where
-    pub later_old : full + cells_of_aPlace ≤ highest_in (at ps k) → later_at accepted refused entry ps k ssrc full ≡ model_after (refused TooOld) ps
+    pub later_old : full + cells_of_a_place ≤ highest_in (at ps k) → later_at accepted refused entry ps k ssrc full ≡ model_after (refused TooOld) ps
     unfolding later_at
     later_old l = rw (too_old_lem (highest_in (at ps k)) full l)
 
-    pub later_in : highest_in (at ps k) < full + cells_of_aPlace
+    pub later_in : highest_in (at ps k) < full + cells_of_a_place
         → later_at accepted refused entry ps k ssrc full ≡ model_after accepted (added_at entry ps k ssrc full)
     unfolding later_at
     later_in l = rw (not_too_old (highest_in (at ps k)) full l)
@@ -56,11 +56,11 @@ module _ {E : Type 0} (entry : ℕ → E) (ps : List (Place E)) (k ssrc full : �
   unfolding noted_at
   noted_ahead l = untaken (leb full (highest_in (at ps k))) _ ps (lt-leb full (highest_in (at ps k)) l)
 
-  pub noted_old : full + cells_of_aPlace ≤ highest_in (at ps k) → noted_at entry ps k ssrc full ≡ ps
+  pub noted_old : full + cells_of_a_place ≤ highest_in (at ps k) → noted_at entry ps k ssrc full ≡ ps
   unfolding noted_at
   noted_old l = simp (le-leb full (highest_in (at ps k)) (omega arith), too_old_lem (highest_in (at ps k)) full l) refl
 
-  pub noted_in_lem : full ≤ highest_in (at ps k) → highest_in (at ps k) < full + cells_of_aPlace → noted_at entry ps k ssrc full ≡ added_at entry ps k ssrc full
+  pub noted_in_lem : full ≤ highest_in (at ps k) → highest_in (at ps k) < full + cells_of_a_place → noted_at entry ps k ssrc full ≡ added_at entry ps k ssrc full
   unfolding noted_at
   noted_in_lem h l = simp (le-leb full (highest_in (at ps k)) h, not_too_old (highest_in (at ps k)) full l) refl
 

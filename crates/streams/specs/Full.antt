@@ -1,7 +1,7 @@
 -- Rules: "What a store means", rule "Full number". A full number is a sequence number, but without
 -- wrapping.
 use Rattle.std.specs.Prelude.{ℕ, ◌+◌, ◌-◌, ◌%◌, max, Bool, cond, List, [], ◌∷◌, leb}
-use Rattle.ring.specs.Ring.{cells_of_aPlace}
+use Rattle.ring.specs.Ring.{cells_of_a_place}
 use Rattle.window.specs.Number.{distance_of, sequence_numbers, farthest_ahead}
 
 -- f from 0 to 32,767
@@ -22,11 +22,11 @@ first_full number = sequence_numbers + number
 
 -- the lowest number of the lowest window of a stream
 abbrev pub lowest_full : ℕ
-lowest_full = sequence_numbers - (cells_of_aPlace - 1)
+lowest_full = sequence_numbers - (cells_of_a_place - 1)
 
 -- rule "Too old": the full number is below the window of the 2,048 highest
 abbrev pub is_too_old : ℕ → ℕ → Bool
-is_too_old top full = leb (full + cells_of_aPlace) top
+is_too_old top full = leb (full + cells_of_a_place) top
 
 -- ---- the full numbers of sequence numbers that are counted on in a row, and the highest
 

@@ -2,7 +2,7 @@
 -- each window.
 use Rattle.std.specs.Prelude.{ℕ, ◌+◌, ◌%◌, ◌≤◌, ◌<◌, ◌≡◌, List, [], ◌∷◌, ◌++◌, length}
 use Rattle.lists.specs.All.{All}
-use Rattle.ring.specs.Ring.{cells_of_aPlace}
+use Rattle.ring.specs.Ring.{cells_of_a_place}
 use Rattle.window.specs.Number.{sequence_numbers}
 use Rattle.places.specs.Place.{place_at}
 use Rattle.places.specs.Shape.{Shaped}
@@ -46,7 +46,7 @@ module _ {E C : Type 0} (M : Meaning E C) where
   -- entries
   pub record Holds (cells : List ℕ) (k : ℕ) (h : Holding) (ssrc top : ℕ) (es : List E) : Type 0 where
     pub place : h ≡ Held ssrc (top % sequence_numbers)
-    pub window : (n : ℕ) → n ≤ top → top < n + cells_of_aPlace → M.read (cell_at cells k n) ≡ M.shown es n
+    pub window : (n : ℕ) → n ≤ top → top < n + cells_of_a_place → M.read (cell_at cells k n) ≡ M.shown es n
     pub begun : sequence_numbers ≤ top
     pub highest : All (λ (e : E). M.full e ≤ top) es
     pub lowest : All (λ (e : E). lowest_full ≤ M.full e) es

@@ -4,7 +4,7 @@ use native.Mathlib.Decide.{ℕ_discrete, dec_le}
 use borrow.Author.Tests.{lt-leb}
 use Rattle.lists.proofs.Cases.{never}
 use Rattle.window.specs.Number.{distance_of, move_of, farthest_ahead}
-use Rattle.ring.specs.Ring.{cells_of_aPlace}
+use Rattle.ring.specs.Ring.{cells_of_a_place}
 use Rattle.window.specs.declared.Move.TheVariants.{Ahead, Within, TooOld}
 
 module _ (highest number : ℕ) where
@@ -13,31 +13,31 @@ module _ (highest number : ℕ) where
   unfolding move_of
   move_ahead l h = simp (ne_eqb (distance_of number highest) 0 (λ e. omega arith), le-leb (distance_of number highest) farthest_ahead h)
 
-  pub move_within : (0 < distance_of number highest → farthest_ahead < distance_of number highest) → distance_of highest number < cells_of_aPlace
+  pub move_within : (0 < distance_of number highest → farthest_ahead < distance_of number highest) → distance_of highest number < cells_of_a_place
       → move_of highest number ≡ Within (distance_of highest number)
   unfolding move_of
   move_within n h =
       elim (ℕ_discrete (distance_of number highest) 0) [
-        | yes e ↦ simp (eq-eqb (distance_of number highest) 0 e, lt-ltb (distance_of highest number) cells_of_aPlace h)
+        | yes e ↦ simp (eq-eqb (distance_of number highest) 0 e, lt-ltb (distance_of highest number) cells_of_a_place h)
         | no e ↦
             simp (
               ne_eqb (distance_of number highest) 0 e,
               lt-leb (distance_of number highest) farthest_ahead (n (omega arith)),
-              lt-ltb (distance_of highest number) cells_of_aPlace h,
+              lt-ltb (distance_of highest number) cells_of_a_place h,
             )
       ]
 
-  pub move_old : (0 < distance_of number highest → farthest_ahead < distance_of number highest) → cells_of_aPlace ≤ distance_of highest number
+  pub move_old : (0 < distance_of number highest → farthest_ahead < distance_of number highest) → cells_of_a_place ≤ distance_of highest number
       → move_of highest number ≡ TooOld
   unfolding move_of
   move_old n h =
       elim (ℕ_discrete (distance_of number highest) 0) [
-        | yes e ↦ simp (eq-eqb (distance_of number highest) 0 e, le-ltb (distance_of highest number) cells_of_aPlace h)
+        | yes e ↦ simp (eq-eqb (distance_of number highest) 0 e, le-ltb (distance_of highest number) cells_of_a_place h)
         | no e ↦
             simp (
               ne_eqb (distance_of number highest) 0 e,
               lt-leb (distance_of number highest) farthest_ahead (n (omega arith)),
-              le-ltb (distance_of highest number) cells_of_aPlace h,
+              le-ltb (distance_of highest number) cells_of_a_place h,
             )
       ]
 
@@ -60,9 +60,9 @@ module _ (highest number : ℕ) where
             ]
       ]
     where
-      behind : (b : ℕ) → cond (ltb b cells_of_aPlace) (Within b) TooOld ≡ Ahead f → ⊥
+      behind : (b : ℕ) → cond (ltb b cells_of_a_place) (Within b) TooOld ≡ Ahead f → ⊥
       behind b g =
-          elim (dec_le cells_of_aPlace b) [
-            | yes l ↦ let h : TooOld ≡ Ahead f = simp (le-ltb b cells_of_aPlace l) at g in never (cc)
-            | no l ↦ let h : Within b ≡ Ahead f = simp (lt-ltb b cells_of_aPlace (omega arith)) at g in never (cc)
+          elim (dec_le cells_of_a_place b) [
+            | yes l ↦ let h : TooOld ≡ Ahead f = simp (le-ltb b cells_of_a_place l) at g in never (cc)
+            | no l ↦ let h : Within b ≡ Ahead f = simp (lt-ltb b cells_of_a_place (omega arith)) at g in never (cc)
           ]

@@ -1,6 +1,6 @@
 -- Rules: "Arrivals and the window". Sequence numbers, and how one moves the window of its stream.
 use Rattle.std.specs.Prelude.{ℕ, ◌+◌, ◌-◌, ◌%◌, ◌^◌, Bool, false, cond, ◌==◌, nat_le, nat_lt}
-use Rattle.ring.specs.Ring.{cells_of_aPlace}
+use Rattle.ring.specs.Ring.{cells_of_a_place}
 use Rattle.window.specs.declared.Move.{Move}
 use Rattle.window.specs.declared.Move.TheVariants.{Ahead, Within, TooOld}
 
@@ -23,7 +23,7 @@ is_ahead f = cond (f == 0) false (nat_le f farthest_ahead)
 -- rules "Ahead", "In the window" and "Too old", by f and b: how far the number is ahead of the
 -- highest, and how far behind it
 abbrev pub move_by : ℕ → ℕ → Move
-move_by f b = cond (is_ahead f) (Ahead f) (cond (nat_lt b cells_of_aPlace) (Within b) TooOld)
+move_by f b = cond (is_ahead f) (Ahead f) (cond (nat_lt b cells_of_a_place) (Within b) TooOld)
 
 unfoldable pub move_of : ℕ → ℕ → Move
 move_of highest number = move_by (distance_of number highest) (distance_of highest number)

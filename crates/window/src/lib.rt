@@ -1,7 +1,7 @@
 // Sequence numbers modulo 65536, and how one moves the window of its stream.
 ghost use Rattle.std.specs.Prelude.{◌≡◌, min};
 ghost use Rattle.window.specs.Number.{distance_of, move_of};
-ghost use Rattle.ring.specs.Ring.{cells_of_aPlace};
+ghost use Rattle.ring.specs.Ring.{cells_of_a_place};
 
 use ring::CELLS_OF_A_PLACE;
 
@@ -43,7 +43,7 @@ pub fn move_of(highest: u16, number: u16) -> Move
 
 // How many numbers are new to a window that moved f numbers ahead.
 pub fn newly(f: u16) -> usize
-    ensures value { result ≡ min f cells_of_aPlace }
+    ensures value { result ≡ min f cells_of_a_place }
 {
     let numbers = f as usize;
     if numbers <= CELLS_OF_A_PLACE {

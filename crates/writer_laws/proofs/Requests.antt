@@ -13,7 +13,7 @@ use Rattle.lists.specs.declared.Found.{Found}
 use Rattle.lists.proofs.Cases.{never, split_le}
 use Rattle.refusal.specs.declared.Refusal.{Refusal}
 use Rattle.window.specs.Number.{distance_of}
-use Rattle.ring.specs.Ring.{cells_of_aPlace}
+use Rattle.ring.specs.Ring.{cells_of_a_place}
 use Rattle.places.specs.Place.{find_of, highest_at}
 use Rattle.places.proofs.Held.{lost_unheld, held_found, unheld_lost, found_held}
 use Rattle.cutting.specs.Cutting.{DifferentStreams}
@@ -75,7 +75,7 @@ module _ (highest begin count : ℕ) where
         | yes e ↦ record { some = λ l. absurd (omega arith); none = λ z. eqb-true begin highest (sym (window_empty highest begin count e) ∙ t) }
         | no e ↦
             record {
-              some = λ l. split_le cells_of_aPlace (distance_of highest begin)
+              some = λ l. split_le cells_of_a_place (distance_of highest begin)
                   (λ h. absurd (true≢false (sym t ∙ window_out highest begin count _ e refl h)))
                   (λ h. (h, leb-true (count - 1) (distance_of highest begin) (sym (window_in highest begin count _ e refl h) ∙ t)));
               none = λ z. absurd (e z);
@@ -171,7 +171,7 @@ module _ (places : List ℕ) where
   sound_different {earlier} (more {r = r} p s a) = (apart r.ssrc a (named_last earlier r), sound_different a)
 
   -- no range is longer than the window
-  pub sound_counts : {earlier rs : List Request} → AllSound places earlier rs → All (λ r. r.count ≤ cells_of_aPlace) rs
+  pub sound_counts : {earlier rs : List Request} → AllSound places earlier rs → All (λ r. r.count ≤ cells_of_a_place) rs
   sound_counts none = tt
   sound_counts (more {r = r} p s a) =
       (split_le r.count 0 (λ h. omega arith) (λ h. let w = s.range.some h in omega arith), sound_counts a)

@@ -9,7 +9,7 @@ use Rattle.metric.specs.Metric.{age_of, longest_age, after_rts, ato_of_age, mark
 use Rattle.metric.specs.declared.Cell.{Cell}
 use Rattle.metric.proofs.Table.{after_row, over_row, else_row}
 use Rattle.window.specs.Number.{sequence_numbers}
-use Rattle.ring.specs.Ring.{cells_of_aPlace}
+use Rattle.ring.specs.Ring.{cells_of_a_place}
 use Rattle.places.specs.Place.{find_of}
 use Rattle.place_window.specs.Window.{cell_at}
 use Rattle.cells.specs.Cell.{read_cell}
@@ -53,13 +53,13 @@ metrics_small f cells rts (s ∷ ns) = (metric_by f cells rts s, metrics_small f
 -- ---- blocks
 
 abbrev pub Small : CutBlock → Type 0
-Small b = (b.begin < sequence_numbers) × (b.count ≤ cells_of_aPlace)
+Small b = (b.begin < sequence_numbers) × (b.count ≤ cells_of_a_place)
 
 after_small : (s j : ℕ) → s < sequence_numbers → number_after s j < sequence_numbers
 after_small s zero h = h
 after_small s (suc j) h = after_small (following s) j (omega arith)
 
-pub whole_small : (i : ℕ) (rs : List Request) → All (λ r. (r.begin < sequence_numbers) × (r.count ≤ cells_of_aPlace)) rs
+pub whole_small : (i : ℕ) (rs : List Request) → All (λ r. (r.begin < sequence_numbers) × (r.count ≤ cells_of_a_place)) rs
     → All Small (whole_blocks i rs)
 whole_small i [] h = tt
 whole_small i (r ∷ rs) h = (h.0, whole_small (suc i) rs h.1)
@@ -86,7 +86,7 @@ packets_small (suc most) limit (b ∷ w) l h =
     (record { blocks = r.0; octets = packet_fits limit (b ∷ w) l }, packets_small most limit (filled_from (limit - 12) (b ∷ w)).rest l r.1)
 
 pub plan_small : (limit : ℕ) (rs : List Request) → least_limit ≤ limit
-    → All (λ r. (r.begin < sequence_numbers) × (r.count ≤ cells_of_aPlace)) rs → All (Fits limit) (plan limit rs)
+    → All (λ r. (r.begin < sequence_numbers) × (r.count ≤ cells_of_a_place)) rs → All (Fits limit) (plan limit rs)
 plan_small limit rs l h = packets_small (most_packets (whole_blocks 0 rs)) limit (whole_blocks 0 rs) (omega arith) (whole_small 0 rs h)
 
 -- ---- packets that are written

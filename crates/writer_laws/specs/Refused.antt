@@ -3,7 +3,7 @@
 use Rattle.std.specs.Prelude.{ℕ, ◌-◌, ◌≤◌, ◌<◌, ◌≡◌, ◌⊎◌, List, [], ◌∷◌, ◌++◌, length}
 use Rattle.refusal.specs.declared.Refusal.{Refusal}
 use Rattle.window.specs.Number.{distance_of}
-use Rattle.ring.specs.Ring.{cells_of_aPlace}
+use Rattle.ring.specs.Ring.{cells_of_a_place}
 use Rattle.places.specs.Shape.{Shaped, Misshapen}
 use Rattle.places.specs.Held.{Unheld, HeldAt}
 use Rattle.cutting.specs.Limits.{least_limit, most_limit, most_requests}
@@ -22,7 +22,7 @@ pub data Named (ssrc : ℕ) : List Request → Type 0 where
 -- numbers behind the highest one, and not less than count - 1; an empty one begins at the highest
 -- number
 pub record InWindow (highest begin count : ℕ) : Type 0 where
-  pub some : 0 < count → (distance_of highest begin < cells_of_aPlace) × (count - 1 ≤ distance_of highest begin)
+  pub some : 0 < count → (distance_of highest begin < cells_of_a_place) × (count - 1 ≤ distance_of highest begin)
   pub none : count ≡ 0 → begin ≡ highest
 
 module _ (places : List ℕ) (earlier : List Request) (r : Request) where

@@ -2,7 +2,7 @@
 -- of three, at three limits.
 use Rattle.std.specs.Prelude.{List, [], ◌∷◌, map, ℕ, ◌*◌, length, take, replicate}
 use Rattle.octets.specs.Output.{OutputAfter}
-use Rattle.ring.specs.Ring.{cells_of_aPlace}
+use Rattle.ring.specs.Ring.{cells_of_a_place}
 use Rattle.places.specs.Place.{place_word}
 use Rattle.cutting.specs.declared.Request.{Request}
 use Rattle.sound_writer.specs.declared.Answer.{Answer}
@@ -17,7 +17,7 @@ five_three = record { ssrc = 7; begin = 65534; count = 5 } ∷ record { ssrc = 8
 -- the call on both, at a limit and with so many octets of output; every cell is empty
 unfoldable pub call : ℕ → ℕ → OutputAfter Answer
 call limit room =
-    written (place_word 7 2 ∷ place_word 8 2 ∷ []) (replicate (2 * cells_of_aPlace) 0) 1 2 limit 2 five_three (replicate room 255)
+    written (place_word 7 2 ∷ place_word 8 2 ∷ []) (replicate (2 * cells_of_a_place) 0) 1 2 limit 2 five_three (replicate room 255)
 
 -- the octets of each packet that walking the length fields finds
 unfoldable pub sizes : Answer → List ℕ → List ℕ

@@ -6,7 +6,7 @@ use lib.Dec.{eqb}
 use lib.ListN.{length}
 use borrow.Author.Tests.{not-true, not-false}
 use borrow.Author.Rules.{rules}
-use Rattle.ring.specs.Ring.{cells_of_aPlace}
+use Rattle.ring.specs.Ring.{cells_of_a_place}
 use Rattle.places.specs.Shape.{shaped}
 use Rattle.places.proofs.Shape.{shaped_none, shaped_many, shaped_by}
 use Rattle.admission.proofs.Decided.{screened_misshapen, screened_bad_mark, screened_sound}
@@ -26,7 +26,7 @@ returns-2 c =
 -- with 1 to 16 places the store has its shape if the cells are as many as they should be
 shape-here : (c : tie.Else2)
     → let a = c.before.before.args in
-    shaped a.places.now a.cells.now ≡ eqb (length a.cells.now) (cells_of_aPlace * length a.places.now)
+    shaped a.places.now a.cells.now ≡ eqb (length a.cells.now) (cells_of_a_place * length a.places.now)
 shape-here c =
     let a = c.before.before.args in
     shaped_by a.places.now a.cells.now (omega arith) c.if2.false

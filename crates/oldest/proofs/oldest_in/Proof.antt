@@ -4,7 +4,7 @@ use mathlib.Core.Path.{◌≡◌, sym, ◌∙◌}
 use native.Mathlib.Omega.{arith}
 use borrow.Author.Rules.{rules}
 use Rattle.lists.proofs.First.{first_below}
-use Rattle.ring.specs.Ring.{cells_of_aPlace}
+use Rattle.ring.specs.Ring.{cells_of_a_place}
 use Rattle.oldest.specs.Steps.{first_filled}
 use Rattle.oldest.proofs.Search.{newer, older, found_older, found_newer, found_none}
 use Rattle.lists.specs.declared.Found.TheVariants.{At, Nothing}
@@ -14,19 +14,19 @@ use Rattle.oldest.proofs.oldest_in.Tie as tie
 -- where the first search found a cell
 told-older : (c : tie.After-among-older)
     → let args = c.before.before.before.before.args in
-    first_filled args.cells.now (cells_of_aPlace * args.p + newer args.highest) (older args.highest) ≡ At c.among-older.given.0.0
+    first_filled args.cells.now (cells_of_a_place * args.p + newer args.highest) (older args.highest) ≡ At c.among-older.given.0.0
 told-older c = sym c.before.before.first-filled.ensures ∙ c.among-older.given.1
 
 -- where it found none
 told_none : (c : tie.After-enum-told)
     → let args = c.before.before.before.before.args in
-    first_filled args.cells.now (cells_of_aPlace * args.p + newer args.highest) (older args.highest) ≡ Nothing
+    first_filled args.cells.now (cells_of_a_place * args.p + newer args.highest) (older args.highest) ≡ Nothing
 told_none c = sym c.before.before.first-filled.ensures ∙ c.enum_told.given.1
 
 -- where the second search found a cell
 told-newer : (c : tie.After-among-newer)
     → let args = c.before.before.before.before.before.before.before.args in
-    first_filled args.cells.now (cells_of_aPlace * args.p) (newer args.highest) ≡ At c.among-newer.given.0.0
+    first_filled args.cells.now (cells_of_a_place * args.p) (newer args.highest) ≡ At c.among-newer.given.0.0
 told-newer c = sym c.before.before.first-filled2.ensures ∙ c.among-newer.given.1
 
 window-number-requires : tie.Need-window-number-requires

@@ -6,7 +6,7 @@ use native.Mathlib.Omega.{arith}
 use borrow.Author.Rules.{rules}
 use Rattle.ring.specs.Steps.{cleared}
 use Rattle.ring.proofs.Ring.{emptied_run, emptied_wrapped}
-use Rattle.ring.specs.Ring.{cells_of_aPlace}
+use Rattle.ring.specs.Ring.{cells_of_a_place}
 use Rattle.ring.proofs.empty_run.Statement.{statement}
 use Rattle.ring.proofs.empty_run.Tie as tie
 
@@ -19,7 +19,7 @@ returns-2 c =
     let e = k.before.before.before.before in
     let a = e.before.before.before.before.args in
     k.clear3.ensures
-    ∙ ap (λ (l : List ℕ). cleared l a.base (a.count - (cells_of_aPlace - a.first % cells_of_aPlace))) e.clear2.ensures
+    ∙ ap (λ (l : List ℕ). cleared l a.base (a.count - (cells_of_a_place - a.first % cells_of_a_place))) e.clear2.ensures
     ∙ sym (emptied_wrapped a.words.now a.base a.first a.count e.before.before.if1.false (omega arith))
 
 pub empty-run-spec : {M : Type 1} → statement M

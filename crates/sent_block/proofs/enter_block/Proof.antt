@@ -1,6 +1,6 @@
 -- `sent_block::enter_block` meets its contract. Assumes nothing.
 use Rattle.std.proofs.Common.{◌≡◌, ℕ, ◌+◌, ◌-◌, ◌*◌, ◌%◌, ◌<◌, length, ap, ◌∙◌, arith, rules}
-use Rattle.ring.specs.Ring.{cells_of_aPlace}
+use Rattle.ring.specs.Ring.{cells_of_a_place}
 use Rattle.window.specs.Number.{sequence_numbers, distance_of}
 use Rattle.sent_block.specs.Steps.{first_in_window, end_in_window}
 use Rattle.sent_block.proofs.Steps.{window_start, window_end}
@@ -34,29 +34,29 @@ count-is c = let t = c.if1.true in omega (arith, t)
 cell-is : (c : tie.After-cell-index)
     → let f = c.before.before.before.before.first-in-window.result in
     let a = c.before.before.before.before.before.before.before.before.before.args in
-    c.cell-index.result ≡ cells_of_aPlace * a.p + (a.b.begin_seq + f) % cells_of_aPlace
+    c.cell-index.result ≡ cells_of_a_place * a.p + (a.b.begin_seq + f) % cells_of_a_place
 cell-is c =
     let f = c.before.before.before.before.first-in-window.result in
     let a = c.before.before.before.before.before.before.before.before.before.args in
     rw (c.cell-index.ensures, c.before.wrapping-add-u16.ensures)
-    (ap (λ (x : ℕ). cells_of_aPlace * a.p + x) (same_slot (a.b.begin_seq + f)))
+    (ap (λ (x : ℕ). cells_of_a_place * a.p + x) (same_slot (a.b.begin_seq + f)))
 
 cut-is : (c : tie.After-before-the-end)
     → let first = c.before.before.before.before.before in
     let f = first.first-in-window.result in
     let a = first.before.before.before.before.before.args in
-    Cut ((a.b.begin_seq + f) % cells_of_aPlace) (first.before.end-in-window.result - f) c.before_the_end.result
+    Cut ((a.b.begin_seq + f) % cells_of_a_place) (first.before.end-in-window.result - f) c.before_the_end.result
 cut-is c =
     let first = c.before.before.before.before.before in
     let a = first.before.before.before.before.before.args in
-    cut_at a.p ((a.b.begin_seq + first.first-in-window.result) % cells_of_aPlace) _ _ (omega arith)
+    cut_at a.p ((a.b.begin_seq + first.first-in-window.result) % cells_of_a_place) _ _ (omega arith)
     (rw (← cell-is c.before) c.before_the_end.ensures)
 
 room-is : (c : tie.After-before-the-end)
     → let first = c.before.before.before.before.before in
     let f = first.first-in-window.result in
     let a = first.before.before.before.before.before.args in
-    Room a.p ((a.b.begin_seq + f) % cells_of_aPlace) a.b.metrics_at f (first.before.end-in-window.result - f)
+    Room a.p ((a.b.begin_seq + f) % cells_of_a_place) a.b.metrics_at f (first.before.end-in-window.result - f)
     c.before_the_end.result (length a.cells.now) (length a.packet.now)
 room-is c =
     let taken = c.before.before.before.before in

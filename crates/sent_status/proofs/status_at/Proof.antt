@@ -4,7 +4,7 @@ use mathlib.Core.Path.{◌≡◌, sym}
 use mathlib.Core.List.{List}
 use native.Mathlib.Omega.{arith}
 use lib.ListN.{get_or}
-use Rattle.ring.specs.Ring.{cells_of_aPlace}
+use Rattle.ring.specs.Ring.{cells_of_a_place}
 use Rattle.place_window.specs.Window.{cell_index}
 use Rattle.sent_word.specs.Word.{read_word_of}
 use Rattle.sent_word.specs.declared.Sent.{Sent}
@@ -15,7 +15,7 @@ use Rattle.sent_status.proofs.status_at.Statement.{statement}
 use Rattle.sent_status.proofs.status_at.Tie as tie
 
 -- what was read at the number's cell
-answers : (cells : List ℕ) (p number b i : ℕ) (r h : Sent) → b < cells_of_aPlace → i ≡ cell_index p number → r ≡ read_word_of (get_or cells i 0) → r ≡ h
+answers : (cells : List ℕ) (p number b i : ℕ) (r h : Sent) → b < cells_of_a_place → i ≡ cell_index p number → r ≡ read_word_of (get_or cells i 0) → r ≡ h
     → answer_of h ≡ status_at cells p number b
 answers cells p number b i r h l a e f = rw (status_within cells p number b l, ← a, ← e, f)
 
