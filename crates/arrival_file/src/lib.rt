@@ -1,4 +1,6 @@
 // The arrival file that ccfbline reads: a header of 5 octets (`ARL`, and a 16-bit version), then records of 12.
+#![tactic(auto)]
+
 ghost use Rattle.std.specs.Prelude.{◌≡◌};
 ghost use Rattle.arrival_file.specs.File.{header_of, end_of};
 

@@ -1,4 +1,6 @@
 // The arrival time offset (ATO) of an age: how long before RTS a packet arrived.
+#![tactic(auto)]
+
 ghost use Rattle.std.specs.Prelude.{◌≡◌, ◌<◌};
 ghost use Rattle.metric.specs.Metric.{age_of, ato_of_age, mark_unit};
 

@@ -1,4 +1,6 @@
 // A record of the arrival file: one arrival in 12 octets.
+#![tactic(auto)]
+
 ghost use Rattle.std.specs.Prelude.{◌≡◌};
 ghost use Rattle.arrival_record.specs.Record.{record_read_of};
 

@@ -1,5 +1,7 @@
 // What the calls for C share: how the case of a metric is handed over behind pointers. Every call for C that can refuse
 // answers 0, or the number of its refusal.
+#![tactic(auto)]
+
 ghost use Rattle.std.specs.Prelude.{◌≡◌, [], ◌∷◌};
 ghost use Rattle.ccfb_calls.specs.Called.{called, case_called};
 

@@ -1,4 +1,6 @@
 // How a cell's 64-bit word stores what arrived, and how the next copy changes it.
+#![tactic(auto)]
+
 ghost use Rattle.std.specs.Prelude.{◌≡◌, ◌≤◌};
 ghost use Rattle.metric.specs.Metric.{congested};
 ghost use Rattle.cells.specs.Cell.{folded_mark, filled_word, copied_word};

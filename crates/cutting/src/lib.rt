@@ -1,4 +1,6 @@
 // How requests are cut into packets: the next block of a packet.
+#![tactic(auto)]
+
 ghost use Rattle.std.specs.Prelude.{◌≡◌, ◌≤◌};
 ghost use Rattle.cutting.specs.Limits.{most_limit};
 ghost use Rattle.cutting.specs.Plan.{fitting, next_block, number_after};

@@ -1,4 +1,5 @@
 // A datagram of RTCP packets: what a walk over it finds at an offset. The packets may be of any type.
+#![tactic(auto)]
 
 // Every RTCP packet starts with a header of so many octets.
 pub const RTCP_HEADER_OCTETS: usize = 4;

@@ -1,4 +1,6 @@
 // The walk over the packets of a datagram, a packet at a time. It accepts any octets and any offset.
+#![tactic(auto)]
+
 ghost use Rattle.std.specs.Prelude.{◌≡◌};
 ghost use Rattle.datagram.specs.Walk.{packet_at_of};
 

@@ -1,4 +1,6 @@
 // The store of ccfbline, before the first record.
+#![tactic(auto)]
+
 ghost use Rattle.std.specs.Prelude.{◌≡◌};
 ghost use Rattle.line_store.specs.Fresh.{fresh_places, fresh_cells};
 

@@ -1,4 +1,5 @@
 // What every layer says of lists: what a search of one finds.
+#![tactic(auto)]
 
 // The first place that passes a test.
 #[derive(Drop)]

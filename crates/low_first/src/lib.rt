@@ -1,5 +1,7 @@
 // Reads 16-bit numbers with the first octet low, only for speed: x86-64 stores numbers this way, so both octets are one
 // load, and a loop over them becomes vector code.
+#![tactic(auto)]
+
 ghost use Rattle.std.specs.Prelude.{◌≡◌, ◌+◌, ◌*◌, ◌≤◌, length};
 ghost use Rattle.octets.specs.Octets.{octet_values, be16};
 ghost use Rattle.low_first.specs.LowFirst.{low_first};

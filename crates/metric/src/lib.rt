@@ -1,5 +1,7 @@
 // The 16-bit metric of a sequence number: R, 2 bits ECN mark, 13 bits arrival time offset (ATO). What its encoding and
 // its decoding share.
+#![tactic(auto)]
+
 ghost use Rattle.std.specs.Prelude.{◌≡◌, ◌<◌};
 ghost use Rattle.metric.specs.Metric.{time_of, mark_unit, assembled_of};
 

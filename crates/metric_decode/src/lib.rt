@@ -1,4 +1,6 @@
 // Reading a metric back from its 16 bits.
+#![tactic(auto)]
+
 ghost use Rattle.std.specs.Prelude.{◌≡◌};
 ghost use Rattle.metric.specs.Metric.{decode_of};
 

@@ -1,6 +1,8 @@
 // The case of a metric as three numbers, without an enum: the case's own number, its mark and its offset. For many
 // metrics, whose cases cannot be predicted: these functions compile without a branch, and a loop that calls them becomes
 // vector code.
+#![tactic(auto)]
+
 ghost use Rattle.std.specs.Prelude.{◌≡◌, ◌-◌, cond, ltb};
 ghost use Rattle.metric.specs.Metric.{largest_offset, received_bit, case_number, decode_of};
 ghost use Rattle.metric_fields.specs.Fields.{mark_or, offset_or};

@@ -1,4 +1,6 @@
 // Reads big-endian numbers of 16 and 32 bits in a slice of octets.
+#![tactic(auto)]
+
 ghost use Rattle.std.specs.Prelude.{◌≡◌, ◌+◌, ◌*◌, ◌≤◌, length};
 ghost use Rattle.octets.specs.Octets.{octet_values, half_values, be16, be32};
 

@@ -1,4 +1,6 @@
 // Writes big-endian numbers of 16 and 32 bits into a slice of octets.
+#![tactic(auto)]
+
 ghost use Rattle.std.specs.Prelude.{◌≡◌, ◌+◌, ◌≤◌, length};
 ghost use Rattle.std.proofs.lemmas.List.Edits.{sets};
 ghost use Rattle.octets.specs.Octets.{octets16, octets32};

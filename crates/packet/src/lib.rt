@@ -1,4 +1,6 @@
 // The format of a CCFB packet: its constants, and the size of a block.
+#![tactic(auto)]
+
 ghost use Rattle.std.specs.Prelude.{◌≡◌};
 ghost use Rattle.packet.specs.Sizes.{block_octets};
 

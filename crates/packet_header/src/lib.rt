@@ -1,4 +1,6 @@
 // The header of a CCFB packet, which may be any octets: a walk over the blocks starts behind it.
+#![tactic(auto)]
+
 ghost use Rattle.std.specs.Prelude.{◌≡◌};
 ghost use Rattle.packet_header.specs.Header.{start_of};
 

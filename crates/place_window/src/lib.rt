@@ -1,4 +1,6 @@
 // The window of a place, over any word of a cell: where a number's cell stands in the ring, and how the window moves on.
+#![tactic(auto)]
+
 ghost use Rattle.std.specs.Prelude.{◌≡◌, ◌+◌, ◌-◌, ◌*◌, ◌^◌, ◌≤◌, ◌<◌, length, set};
 ghost use Rattle.ring.specs.Ring.{cells_of_a_place, emptied};
 ghost use Rattle.places.specs.Place.{place_word};

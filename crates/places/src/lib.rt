@@ -1,4 +1,6 @@
 // The places of streams: a word for each place says which stream it holds, and the stream's highest number.
+#![tactic(auto)]
+
 ghost use Rattle.std.specs.Prelude.{◌≡◌, ◌<◌, length};
 ghost use Rattle.places.specs.Place.{highest_at, read_place, find_from, find_of, free_of};
 ghost use Rattle.places.specs.Shape.{shaped};

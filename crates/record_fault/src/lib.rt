@@ -1,4 +1,6 @@
 // What is wrong with the fields of a record of the arrival file.
+#![tactic(auto)]
+
 ghost use Rattle.std.specs.Prelude.{◌≡◌};
 ghost use Rattle.record_fault.specs.Fault.{is_faulty};
 

@@ -1,4 +1,6 @@
 // The refusals of every call, and the numbers that a caller is given for them.
+#![tactic(auto)]
+
 ghost use Rattle.std.specs.Prelude.{◌≡◌};
 ghost use Rattle.refusal.specs.Numbers.{number_of};
 

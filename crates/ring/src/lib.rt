@@ -1,4 +1,6 @@
 // A ring of words, one for each number of a window, in a longer slice of words.
+#![tactic(auto)]
+
 ghost use Rattle.std.specs.Prelude.{◌≡◌, ◌+◌, ◌≤◌, length};
 ghost use Rattle.ring.specs.Ring.{cells_of_a_place, emptied};
 ghost use Rattle.ring.specs.Steps.{cleared};

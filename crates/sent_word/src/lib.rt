@@ -1,4 +1,6 @@
 // What is known of a sent number, and how the 64-bit word of its cell stores it.
+#![tactic(auto)]
+
 ghost use Rattle.std.specs.Prelude.{◌≡◌};
 ghost use Rattle.sent_word.specs.Status.{arrival_time, status_of};
 ghost use Rattle.sent_word.specs.Word.{held_status, read_word_of, registered_word, received_word, word_reported};

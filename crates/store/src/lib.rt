@@ -1,4 +1,6 @@
 // What is asked of a store besides arrivals: to forget a stream, and which stream a place holds.
+#![tactic(auto)]
+
 ghost use Rattle.std.specs.Prelude.{◌≡◌};
 ghost use Rattle.places.specs.After.{places_after};
 ghost use Rattle.store.specs.Store.{forgotten, place_of};

@@ -1,4 +1,6 @@
 // The walk over the blocks of a CCFB packet. It accepts any octets, and answers what stands there or the first refusal.
+#![tactic(auto)]
+
 ghost use Rattle.std.specs.Prelude.{◌≡◌, ◌+◌, ◌≤◌, length};
 ghost use Rattle.packet.specs.Sizes.{block_octets};
 ghost use Rattle.walk.specs.Walk.{filler_at, step_at};

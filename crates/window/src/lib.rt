@@ -1,4 +1,6 @@
 // Sequence numbers modulo 65536, and how one moves the window of its stream.
+#![tactic(auto)]
+
 ghost use Rattle.std.specs.Prelude.{◌≡◌, min};
 ghost use Rattle.window.specs.Number.{distance_of, move_of};
 ghost use Rattle.ring.specs.Ring.{cells_of_a_place};

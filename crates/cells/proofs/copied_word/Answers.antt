@@ -1,0 +1,19 @@
+use Prim.Native.Nat.{◌%◌}
+use mathlib.Core.Path.{refl}
+use native.Mathlib.Omega.{arith}
+use Rattle.cells.proofs.Words.{folded_small}
+use borrow.Author.Rules.{rules}
+use Rattle.cells.proofs.copied_word.Goals as goal
+
+pub fold_mark-requires : goal.fold_mark-requires
+fold_mark-requires c =
+    record {
+      row = omega arith;
+      column = c.requires;
+    }
+
+-- LEFT overflow-add-result
+-- omega (arith, c.fold-mark.ensures, folded_small (c.before.args.word % 4) c.before.args.mark (omega arith))
+
+pub returns : goal.returns
+returns c = record { value = rw c.fold_mark.ensures.value refl }

@@ -1,0 +1,35 @@
+use mathlib.Core.Logic.{⊎_elim}
+use native.Mathlib.Omega.{arith}
+use borrow.Author.Rules.{rules}
+use Rattle.datagram.proofs.Steps.{step_end}
+use Rattle.datagram_walk.proofs.Fields.{step_few, step_version, step_past, step_padded, step_unpadded, step_last}
+use Rattle.datagram_walk.proofs.next_packet.Goals as goal
+
+pub returns-then-datagram-at : goal.returns-then-datagram-at
+returns-then-datagram-at c = record { value = step_end _ _ (omega arith) }
+
+pub returns-then-left-lt-RTCP_HEADER_OCTETS : goal.returns-then-left-lt-RTCP_HEADER_OCTETS
+returns-then-left-lt-RTCP_HEADER_OCTETS c = record { value = step_few _ _ (omega arith) (omega arith) }
+
+pub returns-then-first-ne-VERSION : goal.returns-then-first-ne-VERSION
+returns-then-first-ne-VERSION c = record { value = step_version _ _ (omega arith) c.if-first-ne-VERSION.true }
+
+pub returns-then-left-size : goal.returns-then-left-size
+returns-then-left-size c =
+    let else3 = after-get16.before in
+    record { value = step_past _ _ (omega arith) else3.if3.false _ after-get16.get16.ensures (omega arith) }
+
+pub returns-then-first-ne0 : goal.returns-then-first-ne0
+returns-then-first-ne0 c =
+    let else3 = after-get16.before in
+    record { value = step_padded _ _ (omega arith) else3.if3.false _ after-get16.get16.ensures (omega arith) c.if-first-ne0.true }
+
+pub returns : goal.returns
+returns c =
+    let else3 = after-get16.before in
+    record {
+      value = ⊎_elim
+          (λ w. step_unpadded _ _ (omega arith) else3.if3.false _ after-get16.get16.ensures (omega arith) w.1.left)
+          (λ w. step_last _ _ (omega arith) else3.if3.false _ after-get16.get16.ensures (omega arith))
+          c.if-size-left.branch;
+    }

@@ -1,0 +1,5 @@
+use borrow.Author.Rules.{rules}
+use Rattle.low_first.proofs.in_front.Goals as goal
+
+pub returns : goal.returns
+returns c = record { value = c.joined.ensures.value }

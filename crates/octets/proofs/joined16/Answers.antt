@@ -1,0 +1,6 @@
+use native.Mathlib.Omega.{arith}
+use borrow.Author.Rules.{rules}
+use Rattle.octets.proofs.joined16.Goals as goal
+
+pub returns : goal.returns
+returns c = record { value = omega arith }

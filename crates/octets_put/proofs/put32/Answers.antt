@@ -1,0 +1,18 @@
+-- `octets_put::put32` meets its contract: two writes, back to back.
+use Prim.Native.Nat.{◌/◌, ◌%◌}
+use native.Mathlib.Omega.{arith}
+use borrow.Author.Rules.{rules}
+use Rattle.octets.specs.Octets.{half_values, octets16}
+use Rattle.octets.proofs.Sets.{sets_twice}
+use Rattle.octets_put.proofs.put32.Goals as goal
+
+pub returns : goal.returns
+returns c =
+    let after-put16 = after-put162.before.before.before.before in
+    let a = after-put16.before.before.before.args in
+    record {
+      content = sets_twice (octets16 (a.v / half_values)) (octets16 (a.v % half_values)) a.out.now _ _ a.at _
+          after-put16.put16.ensures
+          after-put162.put162.ensures
+          (omega arith);
+    }

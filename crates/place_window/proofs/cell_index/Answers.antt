@@ -1,0 +1,6 @@
+use native.Mathlib.Omega.{arith}
+use borrow.Author.Rules.{rules}
+use Rattle.place_window.proofs.cell_index.Goals as goal
+
+pub returns : goal.returns
+returns c = record { value = omega arith }

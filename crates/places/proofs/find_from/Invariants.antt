@@ -1,0 +1,16 @@
+-- The invariant: the search starting at i finds what the search starting at `from`
+-- finds.
+use Prim.Native.Nat.{◌-◌}
+use mathlib.Core.Path.{◌≡◌, refl, sym, ◌∙◌}
+use borrow.Author.Rules.{rules}
+use lib.ListN.{length}
+use Rattle.lists.proofs.First.{first_hit, first_miss, first_none}
+use Rattle.places.specs.Place.{find_from}
+use Rattle.places.proofs.Places.{stream_is, stream_not}
+use Rattle.places.proofs.find_from.Given as goal
+
+abbrev pub invariant-loop-i : goal.invariant-loop-i
+invariant-loop-i l = find_from l.places l.ssrc l.i ≡ find_from l.places l.ssrc l.from
+
+abbrev pub decreases-loop-i : goal.decreases-loop-i
+decreases-loop-i l = length l.places - l.i

@@ -1,0 +1,6 @@
+use mathlib.Core.Path.{refl}
+use borrow.Author.Rules.{rules}
+use Rattle.places.proofs.highest_at.Goals as goal
+
+pub returns : goal.returns
+returns c = record { value = refl }

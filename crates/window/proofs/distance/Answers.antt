@@ -1,0 +1,5 @@
+use Rattle.std.proofs.Common.{arith, rules}
+use Rattle.window.proofs.distance.Goals as goal
+
+pub returns : goal.returns
+returns c = record { value = omega arith }
