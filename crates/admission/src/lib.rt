@@ -1,5 +1,7 @@
 // What becomes of an arrival, decided before anything is changed: at which place it is entered and which kind of
 // arrival it is, or why it is refused.
+#![tactic(auto)]
+
 ghost use Rattle.std.specs.Prelude.{◌≡◌, ◌-◌, ◌<◌, length};
 ghost use Rattle.places.specs.Place.{find_of};
 ghost use Rattle.places.specs.Shape.{Ready};

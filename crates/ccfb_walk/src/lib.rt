@@ -1,4 +1,6 @@
 // The calls for C that walk over the blocks of a packet, and over the metrics of a block: each takes one step.
+#![tactic(auto)]
+
 ghost use Rattle.std.specs.Prelude.{◌≡◌, [], ◌∷◌};
 ghost use Rattle.packet_header.specs.Header.{start_of};
 ghost use Rattle.walk.specs.Walk.{step_at};

@@ -1,4 +1,6 @@
 // The metric of a cell at RTS: of its word, and by its place and number.
+#![tactic(auto)]
+
 ghost use Rattle.std.specs.Prelude.{◌≡◌, ◌+◌, ◌*◌, ◌≤◌, length};
 ghost use Rattle.metric.specs.Metric.{encode_of};
 ghost use Rattle.ring.specs.Ring.{cells_of_a_place};

@@ -71,6 +71,7 @@ step : (rs : List Request) (room : ℕ) {w v : List CutBlock} (p : CutPacket) {b
     → Ahead w v → Split v (p ++ bs) → NoStreamTwice rs p → blocks_octets (counts p) ≤ room
     → Leaves room w bs
 step rs room {w} {v} [] h s o f = record { v = v; split = s; ahead = ahead_trans (rest_ahead room w) h }
+step rs room (b ∷ p) {bs = bs} nil s o f = elim s [ ]
 step rs room (b ∷ p) (skip h) (whole e s) o f = step rs room p h s o.1 (omega arith)
 step rs room (b ∷ p) (less {a = m} {b = a} {v = v} l k) (whole e s) o f =
     let c : b.count ≡ a.count = ap (λ (x : CutBlock). x.count) e in

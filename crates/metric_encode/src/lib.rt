@@ -1,4 +1,6 @@
 // The metric of a cell at RTS: the arrival time offset (ATO) of its time, and its 16 bits.
+#![tactic(auto)]
+
 ghost use Rattle.std.specs.Prelude.{◌≡◌, ◌<◌};
 ghost use Rattle.metric.specs.Metric.{ato_of_age, ato_of, mark_unit, encode_of};
 

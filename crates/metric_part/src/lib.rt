@@ -1,4 +1,6 @@
 // The part of a packet that holds the metrics of a block, and what a metric of it says.
+#![tactic(auto)]
+
 ghost use Rattle.std.specs.Prelude.{◌≡◌};
 ghost use Rattle.metric_part.specs.Part.{part_of, case_at};
 

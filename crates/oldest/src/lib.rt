@@ -1,5 +1,7 @@
 // The oldest sequence number of a stream's window that arrived: where a first report on the stream
 // begins.
+#![tactic(auto)]
+
 ghost use Rattle.std.specs.Prelude.{◌≡◌, ◌+◌, ◌*◌, ◌≤◌, ◌<◌, length};
 ghost use Rattle.ring.specs.Ring.{cells_of_a_place};
 ghost use Rattle.oldest.specs.Oldest.{window_number, oldest_in, oldest_of};

@@ -1,4 +1,6 @@
 // Writes the header of a CCFB packet.
+#![tactic(auto)]
+
 ghost use Rattle.std.specs.Prelude.{◌≡◌, ◌≤◌, length};
 ghost use Rattle.std.proofs.lemmas.List.Edits.{sets};
 ghost use Rattle.packet.specs.Sizes.{packet_header_octets, most_octets};

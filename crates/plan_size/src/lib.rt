@@ -1,4 +1,5 @@
 // How many packets a plan has, and their octets, before any is written.
+#![tactic(auto)]
 ghost use Rattle.std.specs.Prelude.{◌≤◌, ◌<◌, take};
 ghost use Rattle.cutting.specs.Limits.{least_limit, most_limit, most_requests};
 ghost use Rattle.cutting.specs.Plan.{plan};

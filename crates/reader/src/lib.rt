@@ -1,4 +1,6 @@
 // The reader: what a CCFB packet says as a whole. It accepts any octets, and answers or gives the first refusal.
+#![tactic(auto)]
+
 ghost use Rattle.std.specs.Prelude.{◌≡◌};
 ghost use Rattle.walk.specs.Walk.{walk_from, walk_of};
 ghost use Rattle.reader.specs.Reading.{decode_packet, read_of};

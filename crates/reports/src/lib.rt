@@ -1,4 +1,6 @@
 // The reports of a block: what its metric j says, by number.
+#![tactic(auto)]
+
 ghost use Rattle.std.specs.Prelude.{◌≡◌};
 ghost use Rattle.reports.specs.Reports.{reported_in, Within};
 

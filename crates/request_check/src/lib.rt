@@ -1,4 +1,5 @@
 // The check of one request: what is wrong with it, or at which place its stream is held.
+#![tactic(auto)]
 ghost use Rattle.std.specs.Prelude.{◌≡◌, ◌≤◌, take};
 ghost use Rattle.cutting.specs.Limits.{most_requests};
 ghost use Rattle.request_check.specs.Check.{named, in_window_of, check_of};

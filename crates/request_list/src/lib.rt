@@ -1,4 +1,5 @@
 // Requests that C lends as a list of records, gathered into the array that the writer takes.
+#![tactic(auto)]
 ghost use Rattle.std.specs.Prelude.{◌≡◌};
 ghost use Rattle.request_list.specs.Lent.{gathered_of};
 

@@ -1,5 +1,7 @@
 // Registering a sent number: of a stream that a place holds, or the first of a new one. The window of a stream moves as
 // that of arrivals does.
+#![tactic(auto)]
+
 ghost use Rattle.std.specs.Prelude.{◌≡◌, ◌+◌, ◌*◌, ◌≤◌, length};
 ghost use Rattle.ring.specs.Ring.{cells_of_a_place};
 ghost use Rattle.places.specs.Shape.{Ready};

@@ -1,4 +1,6 @@
 // What feedback has said of a sent number.
+#![tactic(auto)]
+
 ghost use Rattle.std.specs.Prelude.{◌≡◌, ◌+◌, ◌*◌, ◌≤◌, length};
 ghost use Rattle.ring.specs.Ring.{cells_of_a_place};
 ghost use Rattle.sent_status.specs.Status.{status_at, status_asked};

@@ -9,11 +9,12 @@ pub fold_mark-requires : goal.fold_mark-requires
 fold_mark-requires c =
     record {
       row = omega arith;
-      column = c.requires;
+      column = c.requires.sound_mark;
     }
 
--- LEFT overflow-add-result
--- omega (arith, c.fold-mark.ensures, folded_small (c.before.args.word % 4) c.before.args.mark (omega arith))
+pub overflow_add-result : goal.overflow_add-result
+overflow_add-result c =
+    omega (arith, c.fold_mark.ensures.value, folded_small (c.args.word % 4) c.args.mark (omega arith))
 
 pub returns : goal.returns
 returns c = record { value = rw c.fold_mark.ensures.value refl }

@@ -3,6 +3,7 @@ use native.Mathlib.Omega.{arith}
 use borrow.Author.Rules.{rules}
 use Rattle.datagram.proofs.Steps.{step_end}
 use Rattle.datagram_walk.proofs.Fields.{step_few, step_version, step_past, step_padded, step_unpadded, step_last}
+use Rattle.datagram_walk.proofs.next_packet.Goals.{then-size-left, else-size-left}
 use Rattle.datagram_walk.proofs.next_packet.Goals as goal
 
 pub returns-then-datagram-at : goal.returns-then-datagram-at
@@ -16,20 +17,17 @@ returns-then-first-ne-VERSION c = record { value = step_version _ _ (omega arith
 
 pub returns-then-left-size : goal.returns-then-left-size
 returns-then-left-size c =
-    let else3 = after-get16.before in
-    record { value = step_past _ _ (omega arith) else3.if3.false _ after-get16.get16.ensures (omega arith) }
+    record { value = step_past _ _ (omega arith) c.if-first-ne-VERSION.false _ c.get16.ensures.value (omega arith) }
 
 pub returns-then-first-ne0 : goal.returns-then-first-ne0
 returns-then-first-ne0 c =
-    let else3 = after-get16.before in
-    record { value = step_padded _ _ (omega arith) else3.if3.false _ after-get16.get16.ensures (omega arith) c.if-first-ne0.true }
+    record { value = step_padded _ _ (omega arith) c.if-first-ne-VERSION.false _ c.get16.ensures.value (omega arith) c.if-first-ne0.true }
 
 pub returns : goal.returns
 returns c =
-    let else3 = after-get16.before in
     record {
-      value = ⊎_elim
-          (λ w. step_unpadded _ _ (omega arith) else3.if3.false _ after-get16.get16.ensures (omega arith) w.1.left)
-          (λ w. step_last _ _ (omega arith) else3.if3.false _ after-get16.get16.ensures (omega arith))
-          c.if-size-left.branch;
+      value = elim c.if-size-left.branch [
+            then-size-left w ↦ step_unpadded _ _ (omega arith) c.if-first-ne-VERSION.false _ c.get16.ensures.value (omega arith) w.if-first-ne0.false
+          | else-size-left w ↦ step_last _ _ (omega arith) c.if-first-ne-VERSION.false _ c.get16.ensures.value (omega arith)
+          ];
     }

@@ -8,11 +8,10 @@ use Rattle.octets_put.proofs.put32.Goals as goal
 
 pub returns : goal.returns
 returns c =
-    let after-put16 = after-put162.before.before.before.before in
-    let a = after-put16.before.before.before.args in
+    let a = c.args in
     record {
       content = sets_twice (octets16 (a.v / half_values)) (octets16 (a.v % half_values)) a.out.now _ _ a.at _
-          after-put16.put16.ensures
-          after-put162.put162.ensures
+          c.put16.ensures.content
+          c.put16-2.ensures.content
           (omega arith);
     }

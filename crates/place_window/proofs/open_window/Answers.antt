@@ -12,17 +12,10 @@ empty_others-requires c =
       few = search rules;
     }
 
-pub shape_of-cells : goal.shape_of-cells
-shape_of-cells c =
-    let args = after-cell-index.before.before.before.args in
-    c.empty_others.auto.0 ∙ length-set args.cells.now after-cell-index.cell-index.result _
-
 pub returns : goal.returns
 returns c =
-    let emptied = c.empty_others in
-    let index = after-cell-index.cell-index in
-    let args = after-cell-index.before.before.before.args in
+    let args = c.args in
     record {
       place = refl;
-      window = rw (emptied.ensures, index.ensures) (opens _ _ args.number args.n (search rules) (search rules) args.word);
+      window = rw (c.empty_others.ensures.content, c.cell_index-at.ensures.value) (opens _ _ args.number args.n (search rules) (search rules) args.word);
     }

@@ -13,42 +13,35 @@ use Rattle.store.proofs.forget.Goals as goal
 
 -- past the first test the store is shaped
 shaped-here : (c : Else-not-sound)
-    → let after-slice-known = c.Start in
-    let args = after-slice-known.before.args in
+    → let args = c.args in
     shaped args.places.now args.cells.now ≡ true
-shaped-here c = sym c.is_shaped-sound.ensures.value ∙ not-false _ c.if-not-sound.false
+shaped-here c = sym c.is_shaped-sound.ensures.value ∙ c.if-not-sound.false
 
 -- the place found is there
 there : (c : In-At)
-    → let at-match-keys1 = c.In-At-1 in
-    let else1 = at-match-keys1.before.before.before in
-    let after-slice-known = else1.before.before.before.before in
-    let args = after-slice-known.before.args in
+    → let args = c.args in
     c.in-At.p < length args.places.now
 there c =
-    let after-slice-known = e.before.before.before.before in
-    let a = after-slice-known.before.args in
-    (ready_found a.places.now a.cells.now _ _ (is_shaped a.places.now a.cells.now (shaped-here c.After-is_shaped-sound))
+    let a = c.args in
+    (ready_found a.places.now a.cells.now _ _ (is_shaped a.places.now a.cells.now ((sym c.is_shaped-sound.ensures.value ∙ c.if-not-sound.false))
     (sym c.find-known.ensures.value ∙ c.in-At.is)).there
 
 pub returns-then-not-sound : goal.returns-then-not-sound
 returns-then-not-sound c =
-    record { after = forgotten_misshapen _ _ _ (sym c.is_shaped-sound.ensures.value ∙ not-true _ c.if-not-sound.true) }
+    record { after = forgotten_misshapen _ _ _ (sym c.is_shaped-sound.ensures.value ∙ c.if-not-sound.true) }
 
--- LEFT overflow-mul-places
--- let at-match-keys1 = c.before.before in
---     let else1 = at-match-keys1.before.before.before in
---     let after-slice-known = else1.before.before.before.before in
---     let good = after-slice-known.before.well-formed in
---     omega (arith, there c, good)
+pub offset_bounds-places-p : goal.offset_bounds-places-p
+offset_bounds-places-p c =
+    let good = c.well_formed in
+    omega (arith, there c, good)
 
 pub bounds-places-p : goal.bounds-places-p
 bounds-places-p c = there c
 
 pub returns-in-At : goal.returns-in-At
 returns-in-At c =
-    record { after = forgotten_held _ _ _ _ (shaped-here (goal.at.returns-in-At c).After-is_shaped-sound) (sym c.find-known.ensures.value ∙ c.in-At.is) }
+    record { after = forgotten_held _ _ _ _ (shaped-here (goal.at.returns-in-At c).Else-not-sound) (sym c.find-known.ensures.value ∙ c.in-At.is) }
 
 pub returns : goal.returns
 returns c =
-    record { after = forgotten_none _ _ _ (shaped-here (goal.at.returns c).After-is_shaped-sound) (sym c.find-known.ensures.value ∙ c.in_default.is) }
+    record { after = forgotten_none _ _ _ (shaped-here (goal.at.returns c).Else-not-sound) (sym c.find-known.ensures.value ∙ c.in_default.is) }

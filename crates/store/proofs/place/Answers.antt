@@ -11,11 +11,11 @@ use Rattle.store.proofs.place.Goals as goal
 shaped-here : (c : Else-not-sound)
     → let args = c.args in
     shaped args.places.now args.cells.now ≡ true
-shaped-here c = sym c.is_shaped-sound.ensures.value ∙ not-false _ c.if-not-sound.false
+shaped-here c = sym c.is_shaped-sound.ensures.value ∙ c.if-not-sound.false
 
 pub returns-then-not-sound : goal.returns-then-not-sound
 returns-then-not-sound c =
-    record { value = place_misshapen _ _ _ (sym c.is_shaped-sound.ensures.value ∙ not-true _ c.if-not-sound.true) }
+    record { value = place_misshapen _ _ _ (sym c.is_shaped-sound.ensures.value ∙ c.if-not-sound.true) }
 
 pub returns-then-places-k : goal.returns-then-places-k
 returns-then-places-k c =

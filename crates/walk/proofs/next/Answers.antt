@@ -18,23 +18,19 @@ returns-then-num_reports-gt-MOST_REPORTS c =
 
 pub returns-then-rts-at-2 : goal.returns-then-rts-at-2
 returns-then-rts-at-2 c =
-    let get16 = c.get16-num_reports in
-    record { value = step_overrun _ _ _ (omega arith) get16.ensures (omega arith) (omega arith) }
+    record { value = step_overrun _ _ _ (omega arith) c.get16-num_reports.ensures.value (omega arith) (omega arith) }
 
 pub returns-then-filler_at-ne0 : goal.returns-then-filler_at-ne0
 returns-then-filler_at-ne0 c =
-    let get16 = c.get16-num_reports in
     record {
-      value = step_filler _ _ _ (omega arith) get16.ensures (omega arith) (omega arith)
+      value = step_filler _ _ _ (omega arith) c.get16-num_reports.ensures.value (omega arith) (omega arith)
           (rw c.filler_at.ensures.value at c.if-filler_at-ne0.true);
     }
 
 pub returns : goal.returns
 returns c =
-    let block-octets = after-filler-at.before.before.block-octets in
-    let get16 = after-filler-at.before.before.before.before.get16 in
     record {
-      value = rw (c.get32.ensures.value, c.get16.ensures.value, block-octets.ensures)
-          (step_found _ _ _ (omega arith) get16.ensures (omega arith) (omega arith)
-          (rw after-filler-at.filler-at.ensures at c.if-filler_at-ne0.false));
+      value = rw (c.get32.ensures.value, c.get16.ensures.value, c.block_octets-size.ensures.value)
+          (step_found _ _ _ (omega arith) c.get16-num_reports.ensures.value (omega arith) (omega arith)
+          (rw c.filler_at.ensures.value at c.if-filler_at-ne0.false));
     }

@@ -1,0 +1,9 @@
+use mathlib.Core.Path.{refl}
+use borrow.Author.Rules.{rules}
+use Rattle.metric_encode.proofs.encode.Goals as goal
+
+pub returns-in-Empty : goal.returns-in-Empty
+returns-in-Empty c = record { value = rw c.in-Empty.is refl }
+
+pub returns-in-Filled : goal.returns-in-Filled
+returns-in-Filled c = record { value = rw (c.cell-1.is, c.assembled.ensures.value, c.ato.ensures.value) refl }
