@@ -17,7 +17,7 @@ use window::Move;
 
 // The kinds of accepted arrival: the first of its stream; ahead of the highest number, with how many numbers it passed
 // over; late, where its number was not received before; a copy, where it was.
-#[derive(Drop)]
+#[derive(Clone, Copy)]
 pub enum ArrivalKind {
     First,
     Ahead(u16),
@@ -26,7 +26,7 @@ pub enum ArrivalKind {
 }
 
 // The answer to an arrival.
-#[derive(Drop)]
+#[derive(Clone, Copy)]
 pub enum Arrival {
     Accepted(ArrivalKind),
     Refused(Refusal),
@@ -34,7 +34,7 @@ pub enum Arrival {
 
 // What is to be done with an arrival. An accepted one is entered at a place: as the first of its stream, so far ahead
 // of the highest number, late, or as a copy.
-#[derive(Drop)]
+#[derive(Clone, Copy)]
 pub enum Decision {
     First(usize),
     Ahead(usize, u16),
@@ -44,7 +44,7 @@ pub enum Decision {
 }
 
 // What the first tests of an arrival say: the store and the mark are sound, or it is refused.
-#[derive(Drop)]
+#[derive(Clone, Copy)]
 enum Screening {
     Sound,
     Refused(Refusal),

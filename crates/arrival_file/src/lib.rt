@@ -11,14 +11,14 @@ pub const FILE_HEADER_OCTETS: usize = 5;
 const FILE_VERSION: u16 = 1;
 
 // What a test of the file finds: no fault, or its first one.
-#[derive(Drop)]
+#[derive(Clone, Copy)]
 pub enum Check {
     Sound,
     Refused(Refusal),
 }
 
 // How far a file has been read: its header, then its records. A file that has a fault is read no further.
-#[derive(Drop)]
+#[derive(Clone, Copy)]
 pub enum Phase {
     Header,
     Records,

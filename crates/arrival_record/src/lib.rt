@@ -10,7 +10,7 @@ use refusal::Refusal;
 pub const RECORD_OCTETS: usize = 12;
 
 // One arrival of the file.
-#[derive(Drop)]
+#[derive(Clone, Copy)]
 pub struct Record {
     pub ssrc: u32,
     pub number: u16,
@@ -19,7 +19,7 @@ pub struct Record {
 }
 
 // What stands where a record is due.
-#[derive(Drop)]
+#[derive(Clone, Copy)]
 pub enum RecordRead {
     Record(Record),
     Refused(Refusal),

@@ -11,7 +11,7 @@ use refusal::Refusal;
 use walk::{ReportBlock, Step};
 
 // The answer about block k.
-#[derive(Drop)]
+#[derive(Clone, Copy)]
 pub enum BlockAnswer {
     Found(ReportBlock),
     Refused(Refusal),

@@ -8,14 +8,14 @@ use cutting::{MOST_REQUESTS, NextBlock, Request};
 use packet::{PACKET_FRAME, PACKET_HEADER_OCTETS};
 
 // How far the writer has come: to this request, so many numbers of which are reported.
-#[derive(Drop)]
+#[derive(Clone, Copy)]
 pub struct Position {
     pub request: usize,
     pub reported: u16,
 }
 
 // How far the writer has come, and how many octets it has written.
-#[derive(Drop)]
+#[derive(Clone, Copy)]
 pub struct Progress {
     pub rest: Position,
     pub octets: usize,

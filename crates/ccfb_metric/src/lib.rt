@@ -1,4 +1,6 @@
 // The calls for C on one metric: from mark and time to 16 bits, and from 16 bits to kind, mark and offset.
+#![tactic(auto)]
+
 ghost use Rattle.std.specs.Prelude.{◌≡◌, [], ◌∷◌};
 ghost use Rattle.metric.specs.Metric.{decode_of};
 ghost use Rattle.ccfb_calls.specs.Called.{called, case_behind};

@@ -1,5 +1,7 @@
 // The calls for C that forget a stream of a store that the caller lends, that read a place of it,
 // and that give the oldest number that arrived, of the window of a place.
+#![tactic(auto)]
+
 ghost use Rattle.std.specs.Prelude.{◌≡◌, [], ◌∷◌};
 ghost use Rattle.places.specs.After.{places_after};
 ghost use Rattle.store.specs.Store.{forgotten, place_of};

@@ -20,7 +20,7 @@ const LEAST_BLOCK: usize = BLOCK_HEADER_OCTETS + 4;
 
 // A request to report `count` numbers of a stream, starting at `begin`.
 #[repr(C)]
-#[derive(Drop)]
+#[derive(Clone, Copy)]
 pub struct Request {
     pub ssrc: u32,
     pub begin: u16,
@@ -28,7 +28,7 @@ pub struct Request {
 }
 
 // What of the next range goes into the open packet: all of it, its first numbers, or nothing more.
-#[derive(Drop)]
+#[derive(Clone, Copy)]
 pub enum NextBlock {
     Whole,
     Part(u16),

@@ -6,7 +6,7 @@ pub const RTCP_HEADER_OCTETS: usize = 4;
 
 // A packet of a datagram, by its header: type, FMT (other types keep a count there), where it starts, how many octets it
 // has.
-#[derive(Drop)]
+#[derive(Clone, Copy)]
 pub struct RtcpPacket {
     pub packet_type: u8,
     pub format: u8,
@@ -15,7 +15,7 @@ pub struct RtcpPacket {
 }
 
 // What stands at an offset of a datagram: a packet, the end, or octets that are no packet.
-#[derive(Drop)]
+#[derive(Clone, Copy)]
 pub enum PacketStep {
     Packet(RtcpPacket),
     End,

@@ -1,4 +1,6 @@
 // How many CCFB packets a datagram holds. It accepts any octets; the header alone tells a CCFB packet.
+#![tactic(auto)]
+
 ghost use Rattle.std.specs.Prelude.{◌≡◌};
 ghost use Rattle.datagram.specs.Walk.{packets_from, packets_of};
 ghost use Rattle.datagram.specs.Feedback.{is_ccfb};
@@ -9,7 +11,7 @@ use packet::{FORMAT, PACKET_TYPE};
 use refusal::Refusal;
 
 // How many CCFB packets there are, or the refusal: 31.
-#[derive(Drop)]
+#[derive(Clone, Copy)]
 pub enum FeedbackCount {
     Packets(usize),
     Refused(Refusal),

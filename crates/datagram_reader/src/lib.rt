@@ -11,7 +11,7 @@ use reader::Reading;
 use refusal::Refusal;
 
 // The answer about CCFB packet k.
-#[derive(Drop)]
+#[derive(Clone, Copy)]
 pub enum FeedbackAnswer {
     Found(RtcpPacket),
     Refused(Refusal),

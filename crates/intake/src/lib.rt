@@ -7,7 +7,7 @@ use arrival_file::Phase;
 
 // Where the taking of a file stands: its phase, RTS (the last known time so far, else 0), the gap (the most numbers
 // that an arrival so far passed over, else 0), and how many octets are not taken yet.
-#[derive(Drop)]
+#[derive(Clone, Copy)]
 pub struct Intake {
     pub phase: Phase,
     pub rts: u32,

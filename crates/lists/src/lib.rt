@@ -2,7 +2,7 @@
 #![tactic(auto)]
 
 // The first place that passes a test.
-#[derive(Drop)]
+#[derive(Clone, Copy)]
 pub enum Found {
     At(usize),
     Nothing,

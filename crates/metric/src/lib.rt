@@ -25,7 +25,7 @@ pub const RECEIVED_BIT: u16 = 0x8000;
 pub const MARK_UNIT: u16 = 0x2000;
 
 // A time of arrival: a count of 1/65536 s, bits 16 to 47 of a 64-bit NTP timestamp.
-#[derive(Drop)]
+#[derive(Clone, Copy)]
 pub enum Time {
     Unknown,
     Known(u32),
@@ -33,14 +33,14 @@ pub enum Time {
 
 // What is known of a sequence number: nothing came, or the first copy's time and mark; the mark is ECN-CE if any copy
 // carried it.
-#[derive(Drop)]
+#[derive(Clone, Copy)]
 pub enum Cell {
     Empty,
     Filled { mark: u8, time: Time },
 }
 
 // A metric read back. All but NotReceived have an ECN mark, and only Received has an offset.
-#[derive(Drop)]
+#[derive(Clone, Copy)]
 pub enum Metric {
     NotReceived,
     Received { mark: u8, offset: u16 },

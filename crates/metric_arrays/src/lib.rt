@@ -5,7 +5,7 @@ ghost use Rattle.metric_arrays.specs.Arrays.{arrays, arrays_after, decoded_into,
 
 use refusal::Refusal;
 
-#[derive(Drop)]
+#[derive(Clone, Copy)]
 pub enum ArraysAnswer {
     Decoded,
     Refused(Refusal),

@@ -14,7 +14,7 @@ use refusal::Refusal;
 use ring::CELLS_OF_A_PLACE;
 
 // The answer to which number of the window of a place is the oldest that arrived.
-#[derive(Drop)]
+#[derive(Clone, Copy)]
 pub enum OldestAnswer {
     Number(u16),
     Refused(Refusal),

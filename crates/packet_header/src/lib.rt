@@ -11,13 +11,13 @@ use packet::{
 use refusal::Refusal;
 
 // Where a walk over the blocks of a packet stands: an offset into the packet.
-#[derive(Drop)]
+#[derive(Clone, Copy)]
 pub struct Cursor {
     pub at: usize,
 }
 
 // Where a walk over the blocks stands, or the refusal that stopped it.
-#[derive(Drop)]
+#[derive(Clone, Copy)]
 pub enum Start {
     At(Cursor),
     Refused(Refusal),

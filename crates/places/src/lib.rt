@@ -18,7 +18,7 @@ pub const SSRC_UNIT: u64 = 0x1_0000;
 const SSRCS: u64 = 0x1_0000_0000;
 
 // What a place holds: nothing, or a stream with its SSRC and its highest number.
-#[derive(Drop)]
+#[derive(Clone, Copy)]
 pub enum Holding {
     Free,
     Held { ssrc: u32, highest: u16 },

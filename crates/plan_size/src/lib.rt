@@ -1,5 +1,6 @@
 // How many packets a plan has, and their octets, before any is written.
 #![tactic(auto)]
+
 ghost use Rattle.std.specs.Prelude.{◌≤◌, ◌<◌, take};
 ghost use Rattle.cutting.specs.Limits.{least_limit, most_limit, most_requests};
 ghost use Rattle.cutting.specs.Plan.{plan};
@@ -10,14 +11,14 @@ use cutting::{MOST_REQUESTS, NextBlock, Request};
 use packet::PACKET_FRAME;
 
 // How many packets there are, and their octets together.
-#[derive(Drop)]
+#[derive(Clone, Copy)]
 pub struct Total {
     pub packets: usize,
     pub octets: usize,
 }
 
 // What a request adds to the total, and the room that is left in the last packet.
-#[derive(Drop)]
+#[derive(Clone, Copy)]
 pub struct Added {
     pub packets: usize,
     pub octets: usize,

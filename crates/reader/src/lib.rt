@@ -12,14 +12,14 @@ use refusal::Refusal;
 use walk::Step;
 
 // How many blocks were walked, or the refusal that stopped the walk.
-#[derive(Drop)]
+#[derive(Clone, Copy)]
 pub enum Count {
     Blocks(usize),
     Stopped(Refusal),
 }
 
 // The answer about the whole packet.
-#[derive(Drop)]
+#[derive(Clone, Copy)]
 pub enum Reading {
     Accepted {
         sender: u32,

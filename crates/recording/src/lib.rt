@@ -13,7 +13,7 @@ use metric::Time;
 
 // How far the octets at hand were taken: `at` is the offset of the first that was not. RTS and the gap are those of all
 // records so far.
-#[derive(Drop)]
+#[derive(Clone, Copy)]
 pub struct Taken {
     pub phase: Phase,
     pub rts: u32,

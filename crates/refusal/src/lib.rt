@@ -6,7 +6,7 @@ ghost use Rattle.refusal.specs.Numbers.{number_of};
 
 // Why a call refuses: first arrivals and the store, then the writer, the arrival file, the reader, datagrams,
 // and sent packets.
-#[derive(Drop)]
+#[derive(Clone, Copy)]
 pub enum Refusal {
     BadMark,
     NoFreePlace,

@@ -8,7 +8,7 @@ use metric::Metric;
 use refusal::Refusal;
 use walk::ReportBlock;
 
-#[derive(Drop)]
+#[derive(Clone, Copy)]
 pub enum MetricAnswer {
     Reported { number: u16, metric: Metric },
     Refused(Refusal),

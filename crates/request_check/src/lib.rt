@@ -1,5 +1,6 @@
 // The check of one request: what is wrong with it, or at which place its stream is held.
 #![tactic(auto)]
+
 ghost use Rattle.std.specs.Prelude.{◌≡◌, ◌≤◌, take};
 ghost use Rattle.cutting.specs.Limits.{most_requests};
 ghost use Rattle.request_check.specs.Check.{named, in_window_of, check_of};
@@ -10,7 +11,7 @@ use refusal::Refusal;
 use ring::CELLS_OF_A_PLACE;
 
 // What checking a request finds: the place of its stream, or what is wrong.
-#[derive(Drop)]
+#[derive(Clone, Copy)]
 pub enum Checked {
     At(usize),
     Fault(Refusal),

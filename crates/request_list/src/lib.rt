@@ -1,5 +1,6 @@
 // Requests that C lends as a list of records, gathered into the array that the writer takes.
 #![tactic(auto)]
+
 ghost use Rattle.std.specs.Prelude.{◌≡◌};
 ghost use Rattle.request_list.specs.Lent.{gathered_of};
 

@@ -8,7 +8,7 @@ use refusal::Refusal;
 use request_check::Checked;
 
 // What is wrong with a list of requests.
-#[derive(Drop)]
+#[derive(Clone, Copy)]
 pub enum Verdict {
     Sound,
     Fault(Refusal),

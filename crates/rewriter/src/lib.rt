@@ -15,7 +15,7 @@ use refusal::Refusal;
 use walk::{ReportBlock, Step};
 
 // How many octets were written, or the refusal.
-#[derive(Drop)]
+#[derive(Clone, Copy)]
 pub enum Rewriting {
     Written(usize),
     Refused(Refusal),

@@ -12,7 +12,7 @@ use refusal::Refusal;
 use walk::Step;
 
 // The answer to taking in a packet.
-#[derive(Drop)]
+#[derive(Clone, Copy)]
 pub enum TakingIn {
     Taken,
     Refused(Refusal),

@@ -17,7 +17,7 @@ use sent_word::NOT_REPORTED;
 use window::Move;
 
 // The answer to a registration.
-#[derive(Drop)]
+#[derive(Clone, Copy)]
 pub enum Registration {
     Accepted,
     Refused(Refusal),

@@ -11,7 +11,7 @@ use ring::CELLS_OF_A_PLACE;
 use sent_word::{Sent, Status};
 
 // The answer to what is known of a sent number.
-#[derive(Drop)]
+#[derive(Clone, Copy)]
 pub enum StatusAnswer {
     Known(Status),
     Refused(Refusal),

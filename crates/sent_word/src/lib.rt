@@ -9,7 +9,7 @@ use metric::{Metric, OFFSET_UNIT, RECEIVED_BIT, TIMES};
 
 // What feedback has said of a registered number. The last three: received, with the ECN mark, and with the time of
 // arrival where it is known.
-#[derive(Drop)]
+#[derive(Clone, Copy)]
 pub enum Status {
     NotReported,
     Missing,
@@ -19,7 +19,7 @@ pub enum Status {
 }
 
 // What is known of a number of the window.
-#[derive(Drop)]
+#[derive(Clone, Copy)]
 pub enum Sent {
     NotRegistered,
     Registered(Status),

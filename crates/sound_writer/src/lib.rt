@@ -12,7 +12,7 @@ use cutting::{MOST_REQUESTS, Request};
 use refusal::Refusal;
 
 // The answer of the writer.
-#[derive(Drop)]
+#[derive(Clone, Copy)]
 pub enum Answer {
     Written { packets: usize, octets: usize },
     Refused(Refusal),

@@ -9,14 +9,14 @@ use lists::Found;
 use places::Holding;
 use refusal::Refusal;
 
-#[derive(Drop)]
+#[derive(Clone, Copy)]
 pub enum Forgetting {
     Forgotten,
     Refused(Refusal),
 }
 
 // The answer to which stream a place holds.
-#[derive(Drop)]
+#[derive(Clone, Copy)]
 pub enum PlaceAnswer {
     Stream { ssrc: u32, highest: u16 },
     Refused(Refusal),

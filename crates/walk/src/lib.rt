@@ -11,7 +11,7 @@ use refusal::Refusal;
 
 // A report block of a packet: it reports num_reports numbers, starting at begin_seq, and their metrics stand at the
 // offset metrics_at.
-#[derive(Drop)]
+#[derive(Clone, Copy)]
 pub struct ReportBlock {
     pub ssrc: u32,
     pub begin_seq: u16,
@@ -20,7 +20,7 @@ pub struct ReportBlock {
 }
 
 // What stands at a cursor: a block, with the cursor behind it, or the end of the blocks.
-#[derive(Drop)]
+#[derive(Clone, Copy)]
 pub enum Step {
     Block(ReportBlock, Cursor),
     End,

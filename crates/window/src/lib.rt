@@ -11,7 +11,7 @@ use ring::CELLS_OF_A_PLACE;
 const FARTHEST_AHEAD: u16 = 32767;
 
 // How a number moves a window: so far ahead of its highest number, so far behind it and in the window, or too old.
-#[derive(Drop)]
+#[derive(Clone, Copy)]
 pub enum Move {
     Ahead(u16),
     Within(u16),

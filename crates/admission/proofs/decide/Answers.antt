@@ -53,7 +53,7 @@ returns-in-At c =
 pub returns-in-At-open : goal.returns-in-At-open
 returns-in-At-open c =
     let a = c.args in
-    let free = sym c.first_free-open.ensures.value ∙ c.«open».given.1 in
+    let free = sym c.first_free-open.ensures.value ∙ c.in-At-open.is in
     record {
       value = decided_new_lem a.places.now a.cells.now a.ssrc a.number a.mark (sound (goal.at.returns-in-At-open c).In_default) _
           (sym c.place_of-known.ensures.value ∙ c.in_default-known.is) free;

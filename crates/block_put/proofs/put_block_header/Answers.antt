@@ -10,8 +10,8 @@ pub returns : goal.returns
 returns c =
     let a = c.args in
     record {
-      content = sets_twice (octets32 a.ssrc ++ octets16 a.begin-seq) (octets16 a.num-reports) a.out.now _ _ a.at _
-          (sets_twice (octets32 a.ssrc) (octets16 a.begin-seq) a.out.now _ _ a.at _
+      content = sets_twice (octets32 a.ssrc ++ octets16 a.begin_seq) (octets16 a.num_reports) a.out.now _ _ a.at _
+          (sets_twice (octets32 a.ssrc) (octets16 a.begin_seq) a.out.now _ _ a.at _
           c.put32.ensures.content c.put16.ensures.content (omega arith))
           c.put16-2.ensures.content
           (omega arith);

@@ -9,7 +9,7 @@ pub returns-in-Block : goal.returns-in-Block
 returns-in-Block c =
     let args = c.args in
     record {
-      after = told (λ (x : Step). next_called x (args.at.now ∷ args.ssrc.now ∷ args.begin.now ∷ args.count.now ∷ args.metrics-at.now ∷ []))
+      after = told (λ (x : Step). next_called x (args.at.now ∷ args.ssrc.now ∷ args.begin.now ∷ args.count.now ∷ args.metrics_at.now ∷ []))
           c.next-here.ensures.value c.in-Block.is;
     }
 
@@ -18,7 +18,7 @@ returns-in-End c =
     let args = c.args in
     record {
       after = rw c.number.ensures.value
-          (told (λ (x : Step). next_called x (args.at.now ∷ args.ssrc.now ∷ args.begin.now ∷ args.count.now ∷ args.metrics-at.now ∷ []))
+          (told (λ (x : Step). next_called x (args.at.now ∷ args.ssrc.now ∷ args.begin.now ∷ args.count.now ∷ args.metrics_at.now ∷ []))
           c.next-here.ensures.value c.in-End.is);
     }
 
@@ -27,6 +27,6 @@ returns-in-Refused c =
     let args = c.args in
     record {
       after = rw c.number-in-Refused.ensures.value
-          (told (λ (x : Step). next_called x (args.at.now ∷ args.ssrc.now ∷ args.begin.now ∷ args.count.now ∷ args.metrics-at.now ∷ []))
+          (told (λ (x : Step). next_called x (args.at.now ∷ args.ssrc.now ∷ args.begin.now ∷ args.count.now ∷ args.metrics_at.now ∷ []))
           c.next-here.ensures.value c.in-Refused.is);
     }

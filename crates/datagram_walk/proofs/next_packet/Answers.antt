@@ -3,7 +3,7 @@ use native.Mathlib.Omega.{arith}
 use borrow.Author.Rules.{rules}
 use Rattle.datagram.proofs.Steps.{step_end}
 use Rattle.datagram_walk.proofs.Fields.{step_few, step_version, step_past, step_padded, step_unpadded, step_last}
-use Rattle.datagram_walk.proofs.next_packet.Goals.{then-size-left, else-size-left}
+use Rattle.datagram_walk.proofs.next_packet.Goals.{then-size-left+else-first-ne0, else-size-left}
 use Rattle.datagram_walk.proofs.next_packet.Goals as goal
 
 pub returns-then-datagram-at : goal.returns-then-datagram-at
@@ -27,7 +27,7 @@ pub returns : goal.returns
 returns c =
     record {
       value = elim c.if-size-left.branch [
-            then-size-left w ↦ step_unpadded _ _ (omega arith) c.if-first-ne-VERSION.false _ c.get16.ensures.value (omega arith) w.if-first-ne0.false
+            then-size-left+else-first-ne0 w ↦ step_unpadded _ _ (omega arith) c.if-first-ne-VERSION.false _ c.get16.ensures.value (omega arith) w.if-first-ne0.false
           | else-size-left w ↦ step_last _ _ (omega arith) c.if-first-ne-VERSION.false _ c.get16.ensures.value (omega arith)
           ];
     }

@@ -6,4 +6,5 @@ pub returns-in-Empty : goal.returns-in-Empty
 returns-in-Empty c = record { value = rw c.in-Empty.is refl }
 
 pub returns-in-Filled : goal.returns-in-Filled
-returns-in-Filled c = record { value = rw (c.cell-1.is, c.assembled.ensures.value, c.ato.ensures.value) refl }
+returns-in-Filled c =
+    record { value = rw (c.in-Filled.is, c.assembled.ensures.value, c.ato.ensures.value) refl }

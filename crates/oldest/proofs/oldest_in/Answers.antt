@@ -7,11 +7,11 @@ use Rattle.ring.specs.Ring.{cells_of_a_place}
 use Rattle.oldest.specs.Steps.{first_filled}
 use Rattle.oldest.proofs.Search.{newer, older, found_older, found_newer, found_none}
 use Rattle.lists.specs.declared.Found.TheVariants.{At, Nothing}
-use Rattle.oldest.proofs.oldest_in.Goals.{In-At-2, In-At-among_newer-2, In_default}
+use Rattle.oldest.proofs.oldest_in.Goals.{In-At, In-At-among_newer, In_default}
 use Rattle.oldest.proofs.oldest_in.Goals as goal
 
 -- where the first search found a cell
-told-older : (c : In-At-2)
+told-older : (c : In-At)
     → let args = c.args in
     first_filled args.cells.now (cells_of_a_place * args.p + newer args.highest) (older args.highest) ≡ At c.in-At.i
 told-older c = sym c.first_filled-among_older.ensures.value ∙ c.in-At.is
@@ -23,35 +23,34 @@ told_none : (c : In_default)
 told_none c = sym c.first_filled-among_older.ensures.value ∙ c.in_default.is
 
 -- where the second search found a cell
-told-newer : (c : In-At-among_newer-2)
+told-newer : (c : In-At-among_newer)
     → let args = c.args in
     first_filled args.cells.now (cells_of_a_place * args.p) (newer args.highest) ≡ At c.in-At-among_newer.i
 told-newer c = sym c.first_filled-among_newer.ensures.value ∙ c.in-At-among_newer.is
 
-below-newer : (c : In-At-among_newer-2)
+below-newer : (c : In-At-among_newer)
     → let args = c.args in
     c.in-At-among_newer.i < newer args.highest
-below-newer c = let l = first_below _ _ _ _ (told-newer c) in omega arith
+below-newer c = let l = first_below _ _ _ _ ((sym c.first_filled-among_newer.ensures.value ∙ c.in-At-among_newer.is)) in omega arith
 
 pub window_number-requires : goal.window_number-requires
 window_number-requires c =
-    let l = first_below _ _ _ _ (told-older (goal.at.window_number-requires c).In-At-2) in
+    let l = first_below _ _ _ _ (told-older c) in
     record { within = omega arith }
 
 pub returns-in-At : goal.returns-in-At
 returns-in-At c =
-    record { value = c.window_number.ensures.value ∙ found_older _ _ _ _ (told-older (goal.at.returns-in-At c).In-At-2) }
+    record { value = c.window_number.ensures.value ∙ found_older _ _ _ _ (told-older (goal.at.returns-in-At c).In-At) }
 
 pub overflow_add-older : goal.overflow_add-older
-overflow_add-older c = omega (arith, below-newer (goal.at.overflow_add-older c).In-At-among_newer-2)
+overflow_add-older c = omega (arith, below-newer c)
 
 pub window_number-requires-in-At-among_newer : goal.window_number-requires-in-At-among_newer
-window_number-requires-in-At-among_newer c =
-    record { within = omega (arith, below-newer (goal.at.window_number-requires-in-At-among_newer c).In-At-among_newer-2) }
+window_number-requires-in-At-among_newer c = record { within = omega (arith, below-newer c) }
 
 pub returns-in-At-among_newer : goal.returns-in-At-among_newer
 returns-in-At-among_newer c =
-    record { value = c.window_number-in-At-among_newer.ensures.value ∙ found_newer _ _ _ (told_none (goal.at.returns-in-At-among_newer c).In_default) _ (told-newer (goal.at.returns-in-At-among_newer c).In-At-among_newer-2) }
+    record { value = c.window_number-in-At-among_newer.ensures.value ∙ found_newer _ _ _ (told_none (goal.at.returns-in-At-among_newer c).In_default) _ (told-newer (goal.at.returns-in-At-among_newer c).In-At-among_newer) }
 
 pub returns : goal.returns
 returns c =

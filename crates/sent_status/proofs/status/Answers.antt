@@ -21,7 +21,7 @@ ready : (c : In-At)
     Ready args.places.now args.cells.now c.in-At.p
 ready c =
     let args = c.args in
-    ready_found args.places.now args.cells.now _ _ (is_shaped args.places.now args.cells.now ((sym c.is_shaped-sound.ensures.value ∙ c.if-not-sound.false))
+    ready_found args.places.now args.cells.now _ _ (is_shaped args.places.now args.cells.now ((sym c.is_shaped-sound.ensures.value ∙ c.if-not-sound.false)))
     (sym c.find-known.ensures.value ∙ c.in-At.is)
 
 pub returns-then-not-sound : goal.returns-then-not-sound
@@ -38,8 +38,10 @@ status_at-requires c =
 
 pub returns-in-At : goal.returns-in-At
 returns-in-At c =
-    record { value = rw (← c.highest_at.ensures.value, ← c.distance-b.ensures.value) c.status_at.ensures.value
-    ∙ asked_held _ _ _ _ (shaped-here (goal.at.returns-in-At c).Else-not-sound) _ (sym c.find-known.ensures.value ∙ c.in-At.is) }
+    record {
+      value = rw (← c.highest_at.ensures.value, ← c.distance-b.ensures.value) c.status_at.ensures.value
+          ∙ asked_held _ _ _ _ (shaped-here (goal.at.returns-in-At c).Else-not-sound) _ (sym c.find-known.ensures.value ∙ c.in-At.is);
+    }
 
 pub returns : goal.returns
 returns c =

@@ -23,7 +23,7 @@ there : (c : In-At)
     c.in-At.p < length args.places.now
 there c =
     let a = c.args in
-    (ready_found a.places.now a.cells.now _ _ (is_shaped a.places.now a.cells.now ((sym c.is_shaped-sound.ensures.value ∙ c.if-not-sound.false))
+    (ready_found a.places.now a.cells.now _ _ (is_shaped a.places.now a.cells.now ((sym c.is_shaped-sound.ensures.value ∙ c.if-not-sound.false)))
     (sym c.find-known.ensures.value ∙ c.in-At.is)).there
 
 pub returns-then-not-sound : goal.returns-then-not-sound

@@ -1,4 +1,4 @@
--- `request_list::gathered` meets its contract: a walk of its MIR, by hand. Assumes nothing.
+-- `request_list::gathered` meets its contract: a walk of its MIR, by hand.
 use mathlib.Core.Path.{◌≡◌, refl, sym, ap, ◌∙◌}
 use mathlib.Core.List.{List, [], ◌∷◌, ◌++◌}
 use mathlib.Core.WellFounded.InvImage
@@ -51,6 +51,7 @@ use Rattle.request_list.specs.contracts.gathered as f
 use Rattle.request_list.proofs.gathered.Statement as stated
 use Rattle.request_list.proofs.gathered.Code as code
 use Rattle.request_list.proofs.gathered.Code.Mir as body
+use Rattle.request_list.proofs.gathered.Goals as goal
 
 -- a record, and its machine value
 abbrev R : RattleType
@@ -192,14 +193,3 @@ module _ {M : Type 1} {𝓤 : Ura M} (𝓛 : Logic 𝓤) (mem : Memory → SProp
       (λ h. skips ! $ forget ! 16 refl $ keep ! (4 ∷ 2 ∷ 0 ∷ span 5 27) $
       by ! (loop 𝓣 l (length ys) (nltb→le 16 (length ys) h) (omega arith)
       (take_all (length ys) ys (omega arith) ∙ sym (take_all 16 ys (nltb→le 16 (length ys) h)))))))
-
-pub gathered-spec : {M : Type 1} → stated.statement M
-unfolding code.routine tables_of
-gathered-spec 𝓤 𝓛 𝓜 𝓡 =
-    let 𝓣 : Tables 𝓤 𝓛.H = tables_of 𝓤 𝓛.H 𝓜 (tables 𝓤 𝓛.H 𝓜 𝓡 code.env) in
-    entered 𝓤 𝓛.H (triple_of 𝓛 f.signature (f.spec 𝓛 𝓜.mem 𝓡.run)) (tables 𝓤 𝓛.H 𝓜 𝓡 code.env).C
-    (tables 𝓤 𝓛.H 𝓜 𝓡 code.env).Λ #gathered code.function (code.unfolded 𝓤 𝓛.H 𝓜 𝓡)
-    (meets 𝓛 f.ended (f.clauses 𝓛 𝓜.mem 𝓡.run) (WpFn 𝓤 𝓛.H 𝓣.C 𝓣.Λ code.function)
-    (λ κs. (shr_slice_vals, tt)) (λ κs. (shr_slice_Tells (named 0) κs.0 R, tt))
-    (λ κs qs bounds a g are. walk 𝓛 𝓜.mem 𝓡.run κs.0 qs.0 a.0.ptr.0
-    a.0.ref_ptr.1 0 a.0.now 𝓣 are.0.0.1))

@@ -1,0 +1,7 @@
+use native.Mathlib.Omega.{arith}
+use Rattle.plan_size.proofs.Division.{full_some}
+use borrow.Author.Rules.{rules}
+use Rattle.plan_size.proofs.full_packets.Goals as goal
+
+pub returns : goal.returns
+returns c = record { value = full_some _ _ (omega arith) (omega arith) }
