@@ -1,4 +1,6 @@
 // An arrival: it is decided what becomes of it, and that is carried out.
+#![tactic(auto)]
+
 ghost use Rattle.std.specs.Prelude.{◌≡◌};
 ghost use Rattle.places.specs.After.{store_after};
 ghost use Rattle.arrivals.specs.Arrivals.{arrived};

@@ -1,5 +1,6 @@
 // Writes a report block: its header, the metrics of its numbers, and the filler.
 #![tactic(auto)]
+
 ghost use Rattle.std.specs.Prelude.{◌≡◌, map, ◌+◌, ◌*◌, ◌≤◌, length};
 ghost use Rattle.std.proofs.lemmas.List.Edits.{sets};
 ghost use Rattle.ring.specs.Ring.{cells_of_a_place};

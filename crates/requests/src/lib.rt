@@ -1,4 +1,6 @@
 // The check of requests: what is wrong with them, and at which place each one's stream is held.
+#![tactic(auto)]
+
 ghost use Rattle.std.specs.Prelude.{◌≡◌, ◌≤◌, length, take};
 ghost use Rattle.cutting.specs.Limits.{most_requests};
 ghost use Rattle.requests.specs.Steps.{Validated};

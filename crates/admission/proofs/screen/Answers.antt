@@ -3,7 +3,7 @@ use mathlib.Core.Path.{◌≡◌, ◌∙◌}
 use native.Mathlib.Omega.{arith}
 use lib.Dec.{eqb}
 use lib.ListN.{length}
-use borrow.Author.Tests.{not-true, not-false}
+use borrow.Author.Tests.{eq-eqb, ne_eqb}
 use borrow.Author.Rules.{rules}
 use Rattle.ring.specs.Ring.{cells_of_a_place}
 use Rattle.places.specs.Shape.{shaped}
@@ -33,19 +33,19 @@ returns-then-n-gt-MOST_PLACES c =
 pub returns-then-not-sized : goal.returns-then-not-sized
 returns-then-not-sized c =
     let a = c.args in
-    record { value = screened_misshapen a.places.now a.cells.now a.mark (shape-here (goal.at.returns-then-not-sized c).Else-n-gt-MOST_PLACES ∙ c.if-not-sized.true) }
+    record { value = screened_misshapen a.places.now a.cells.now a.mark (shape-here (goal.at.returns-then-not-sized c).Else-n-gt-MOST_PLACES ∙ ne_eqb _ _ c.if-not-sized.true) }
 
 pub returns-then-mark-gt-CONGESTED : goal.returns-then-mark-gt-CONGESTED
 returns-then-mark-gt-CONGESTED c =
     let a = c.args in
-    record { value = screened_bad_mark a.places.now a.cells.now a.mark (shape-here (goal.at.returns-then-mark-gt-CONGESTED c).Else-n-gt-MOST_PLACES ∙ c.if-not-sized.false) c.if-mark-gt-CONGESTED.true }
+    record { value = screened_bad_mark a.places.now a.cells.now a.mark (shape-here (goal.at.returns-then-mark-gt-CONGESTED c).Else-n-gt-MOST_PLACES ∙ eq-eqb _ _ c.if-not-sized.false) c.if-mark-gt-CONGESTED.true }
 
 pub returns-then-sized : goal.returns-then-sized
 returns-then-sized c =
     let a = c.args in
-    record { value = screened_sound a.places.now a.cells.now a.mark (shape-here (goal.at.returns-then-sized c).Else-n-gt-MOST_PLACES ∙ c.if-sized.true) c.if-mark-gt-CONGESTED.false }
+    record { value = screened_sound a.places.now a.cells.now a.mark (shape-here (goal.at.returns-then-sized c).Else-n-gt-MOST_PLACES ∙ eq-eqb _ _ c.if-sized.true) c.if-mark-gt-CONGESTED.false }
 
 pub returns : goal.returns
 returns c =
     let a = c.args in
-    record { value = screened_misshapen a.places.now a.cells.now a.mark (shape-here (goal.at.returns c).Else-n-gt-MOST_PLACES ∙ c.if-sized.false) }
+    record { value = screened_misshapen a.places.now a.cells.now a.mark (shape-here (goal.at.returns c).Else-n-gt-MOST_PLACES ∙ ne_eqb _ _ c.if-sized.false) }

@@ -8,6 +8,6 @@ use Rattle.ccfb_store.proofs.ccfb_forget.Goals as goal
 pub returns : goal.returns
 returns c =
     record {
-      after = ap (λ (n : ℕ). places_after n c.forget.new.0) c.forgetting_refusal.ensures.value
+      after = ap (λ (n : ℕ). places_after n c.forget.new.places) c.forgetting_refusal.ensures.value
           ∙ ap forget_called c.forget.ensures.after;
     }

@@ -9,6 +9,7 @@ use Rattle.datagram_count.specs.Count.{count_of}
 use Rattle.datagram_count.specs.Steps.{counted}
 use Rattle.datagram_count.proofs.Counts.{counted_none, count_one, count_other, count_end, count_broken}
 use borrow.Author.Rules.{rules}
+use Rattle.datagram_count.proofs.count_from.Goals.{then-is_ccfb, else-is_ccfb}
 use Rattle.datagram_count.proofs.count_from.Goals as goal
 
 pub loop-p-init : goal.loop-p-init
@@ -34,10 +35,10 @@ loop-p-preserved c =
     let found = c.in-Packet.is in
     let is = c.is_ccfb.ensures.value in
     let more = found_more _ _ _ (sym c.next_packet-here.ensures.value ∙ found) in
-    ⊎_elim
-    (λ w. (omega arith, count_one _ _ c.loop-p.n _ c.next_packet-here.ensures.value _ found _ is _ w.0.taken w.1 ∙ c.loop-p.invariant.1))
-    (λ w. (omega arith, count_other _ _ c.loop-p.n _ c.next_packet-here.ensures.value _ found _ is _ w.0.left w.1 ∙ c.loop-p.invariant.1))
-    c.if-is_ccfb.branch
+    elim c.if-is_ccfb.branch [
+      then-is_ccfb w ↦ (omega arith, count_one _ _ c.loop-p.n _ c.next_packet-here.ensures.value _ found _ is _ w.if-is_ccfb.true w.n-is ∙ c.loop-p.invariant.1)
+    | else-is_ccfb w ↦ (omega arith, count_other _ _ c.loop-p.n _ c.next_packet-here.ensures.value _ found _ is _ w.if-is_ccfb.false w.n-is ∙ c.loop-p.invariant.1)
+    ]
 
 pub returns-in-End : goal.returns-in-End
 returns-in-End c =

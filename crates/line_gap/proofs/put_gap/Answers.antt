@@ -8,33 +8,29 @@ use Rattle.line_gap.proofs.put_gap.Goals.{After-put_digit-after_hundreds, After-
 use Rattle.line_gap.proofs.put_gap.Goals as goal
 
 -- after each digit: how far the text reaches, and that the output is as long as before
-first : (c : After-put_digit-after_ten_thousands) → let a = c.args in
-    (c.put_digit-after_ten_thousands.result ≤ a.at + 5) × (length c.put_digit-after_ten_thousands.new.0 ≡ length a.out.now)
+first : (c : After-put_digit-after_ten_thousands) →
+    let a = c.args in
+    (c.put_digit-after_ten_thousands.result ≤ a.at + 5) × (length c.put_digit-after_ten_thousands.new.out ≡ length a.out.now)
 first c =
     (omega (arith, digit_end _ _ _ _ _ _ c.put_digit-after_ten_thousands.ensures.after), c.put_digit-after_ten_thousands.auto.out ∙ c.put_word.auto.out)
 
-second : (c : After-put_digit-after_thousands) → let a = c.args in
-    (c.put_digit-after_thousands.result ≤ a.at + 6) × (length c.put_digit-after_thousands.new.0 ≡ length a.out.now)
+second : (c : After-put_digit-after_thousands) →
+    let a = c.args in
+    (c.put_digit-after_thousands.result ≤ a.at + 6) × (length c.put_digit-after_thousands.new.out ≡ length a.out.now)
 second c =
-    let f = ((omega (arith, digit_end _ _ _ _ _ _ c.put_digit-after_ten_thousands.ensures.after), c.put_digit-after_ten_thousands.auto.out ∙ c.put_word.auto.out)) in
-    (omega (arith, digit_end _ _ _ _ _ _ c.put_digit-after_thousands.ensures.after, f.0), c.put_digit-after_thousands.auto.out ∙ f.1)
+    (omega (arith, digit_end _ _ _ _ _ _ c.put_digit-after_thousands.ensures.after, digit_end _ _ _ _ _ _ c.put_digit-after_ten_thousands.ensures.after), c.put_digit-after_thousands.auto.out ∙ c.put_digit-after_ten_thousands.auto.out ∙ c.put_word.auto.out)
 
 third : (c : After-put_digit-after_hundreds) →
     let a = c.args in
-    (c.put_digit-after_hundreds.result ≤ a.at + 7) × (length c.put_digit-after_hundreds.new.0 ≡ length a.out.now)
+    (c.put_digit-after_hundreds.result ≤ a.at + 7) × (length c.put_digit-after_hundreds.new.out ≡ length a.out.now)
 third c =
-    let f = (let f = ((omega (arith, digit_end _ _ _ _ _ _ c.put_digit-after_ten_thousands.ensures.after), c.put_digit-after_ten_thousands.auto.out ∙ c.put_word.auto.out)) in
-    (omega (arith, digit_end _ _ _ _ _ _ c.put_digit-after_thousands.ensures.after, f.0), c.put_digit-after_thousands.auto.out ∙ f.1)) in
-    (omega (arith, digit_end _ _ _ _ _ _ c.put_digit-after_hundreds.ensures.after, f.0), c.put_digit-after_hundreds.auto.out ∙ f.1)
+    (omega (arith, digit_end _ _ _ _ _ _ c.put_digit-after_hundreds.ensures.after, digit_end _ _ _ _ _ _ c.put_digit-after_thousands.ensures.after, digit_end _ _ _ _ _ _ c.put_digit-after_ten_thousands.ensures.after), c.put_digit-after_hundreds.auto.out ∙ c.put_digit-after_thousands.auto.out ∙ c.put_digit-after_ten_thousands.auto.out ∙ c.put_word.auto.out)
 
 fourth : (c : After-put_digit-end) →
     let a = c.args in
-    (c.put_digit-end.result ≤ a.at + 8) × (length c.put_digit-end.new.0 ≡ length a.out.now)
+    (c.put_digit-end.result ≤ a.at + 8) × (length c.put_digit-end.new.out ≡ length a.out.now)
 fourth c =
-    let f = (let f = (let f = ((omega (arith, digit_end _ _ _ _ _ _ c.put_digit-after_ten_thousands.ensures.after), c.put_digit-after_ten_thousands.auto.out ∙ c.put_word.auto.out)) in
-    (omega (arith, digit_end _ _ _ _ _ _ c.put_digit-after_thousands.ensures.after, f.0), c.put_digit-after_thousands.auto.out ∙ f.1)) in
-    (omega (arith, digit_end _ _ _ _ _ _ c.put_digit-after_hundreds.ensures.after, f.0), c.put_digit-after_hundreds.auto.out ∙ f.1)) in
-    (omega (arith, digit_end _ _ _ _ _ _ c.put_digit-end.ensures.after, f.0), c.put_digit-end.auto.out ∙ f.1)
+    (omega (arith, digit_end _ _ _ _ _ _ c.put_digit-end.ensures.after, digit_end _ _ _ _ _ _ c.put_digit-after_hundreds.ensures.after, digit_end _ _ _ _ _ _ c.put_digit-after_thousands.ensures.after, digit_end _ _ _ _ _ _ c.put_digit-after_ten_thousands.ensures.after), c.put_digit-end.auto.out ∙ c.put_digit-after_hundreds.auto.out ∙ c.put_digit-after_thousands.auto.out ∙ c.put_digit-after_ten_thousands.auto.out ∙ c.put_word.auto.out)
 
 pub put_digit-after_thousands-requires : goal.put_digit-after_thousands-requires
 put_digit-after_thousands-requires c =

@@ -13,17 +13,17 @@ loop-i-init c = refl
 pub returns-then-q-ssrc : goal.returns-then-q-ssrc
 returns-then-q-ssrc c =
     let a = c.args in
-    let h : a.n ≤ length a.t1 = omega arith in
-    record { value = sym (named_hit a.t1 a.n h c.loop-i.i a.ssrc (omega arith) c.if-q-ssrc.true) ∙ c.loop-i.invariant }
+    let h : a.n ≤ length a.requests = omega arith in
+    record { value = sym (named_hit a.requests a.n h c.loop-i.i a.ssrc (omega arith) c.if-q-ssrc.true) ∙ c.loop-i.invariant }
 
 pub loop-i-preserved : goal.loop-i-preserved
 loop-i-preserved c =
     let a = c.args in
-    let h : a.n ≤ length a.t1 = omega arith in
-    sym (named_miss a.t1 a.n h c.loop-i.i a.ssrc (omega arith) c.if-q-ssrc.false) ∙ c.loop-i.invariant
+    let h : a.n ≤ length a.requests = omega arith in
+    sym (named_miss a.requests a.n h c.loop-i.i a.ssrc (omega arith) c.if-q-ssrc.false) ∙ c.loop-i.invariant
 
 pub returns : goal.returns
 returns c =
     let a = c.args in
-    let h : a.n ≤ length a.t1 = omega arith in
-    record { value = sym (named_none a.t1 a.n h c.loop-i.i a.ssrc (omega arith)) ∙ c.loop-i.invariant }
+    let h : a.n ≤ length a.requests = omega arith in
+    record { value = sym (named_none a.requests a.n h c.loop-i.i a.ssrc (omega arith)) ∙ c.loop-i.invariant }

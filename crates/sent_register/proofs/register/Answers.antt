@@ -59,13 +59,13 @@ pub returns-in-At-open : goal.returns-in-At-open
 returns-in-At-open c =
     record {
       after = rw (c.open_window.ensures.place, c.open_window.ensures.window)
-          (registered_first _ _ _ _ (shaped-here (goal.at.returns-in-At-open c).Else-not-sound) _ (sym c.find-known.ensures.value ∙ c.enum_told-1.is)
+          (registered_first _ _ _ _ (shaped-here (goal.at.returns-in-At-open c).Else-not-sound) _ (sym c.find-known.ensures.value ∙ c.in_default.is)
           (sym c.first_free-open.ensures.value ∙ c.in-At-open.is) (ready-open (goal.at.returns-in-At-open c).In-At-open));
     }
 
 pub returns : goal.returns
 returns c =
     record {
-      after = registered_full _ _ _ _ (shaped-here (goal.at.returns c).Else-not-sound) (sym c.find-known.ensures.value ∙ c.enum_told-1.is)
+      after = registered_full _ _ _ _ (shaped-here (goal.at.returns c).Else-not-sound) (sym c.find-known.ensures.value ∙ c.in_default.is)
           (sym c.first_free-open.ensures.value ∙ c.in_default-open.is);
     }
