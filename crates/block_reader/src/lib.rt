@@ -1,5 +1,7 @@
 // The reader's answer about block k of a packet. Like the reader of the whole packet it accepts any octets, and answers or
 // gives the first refusal.
+#![tactic(auto)]
+
 ghost use Rattle.std.specs.Prelude.{◌≡◌};
 ghost use Rattle.walk.specs.Walk.{walk_from};
 ghost use Rattle.block_reader.specs.Blocks.{located, read_block};

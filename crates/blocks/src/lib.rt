@@ -1,4 +1,6 @@
 // Writes the report blocks of a packet: the metrics of range after range, until the next number does not fit.
+#![tactic(auto)]
+
 ghost use Rattle.std.specs.Prelude.{◌≡◌, ◌≤◌, length, take};
 ghost use Rattle.packet.specs.Sizes.{packet_octets};
 ghost use Rattle.cutting.specs.Cutting.{counts};

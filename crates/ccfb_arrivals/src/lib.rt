@@ -1,4 +1,6 @@
 // The call for C that records an arrival in a store that the caller lends.
+#![tactic(auto)]
+
 ghost use Rattle.std.specs.Prelude.{◌≡◌, set};
 ghost use Rattle.metric.specs.Metric.{time_of};
 ghost use Rattle.arrivals.specs.Arrivals.{arrived};

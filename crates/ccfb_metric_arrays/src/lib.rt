@@ -1,4 +1,6 @@
 // The call for C that decodes all metrics of a block in one pass.
+#![tactic(auto)]
+
 ghost use Rattle.std.specs.Prelude.{◌≡◌};
 ghost use Rattle.metric_arrays.specs.Arrays.{arrays, decoded_all};
 ghost use Rattle.ccfb_metric_arrays.specs.Decoding.{decoding, decode_called};

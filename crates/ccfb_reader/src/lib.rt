@@ -1,4 +1,6 @@
 // The calls for C that read a packet: its sender, RTS and number of blocks, and block k.
+#![tactic(auto)]
+
 ghost use Rattle.std.specs.Prelude.{◌≡◌, [], ◌∷◌};
 ghost use Rattle.reader.specs.Reading.{decode_packet, read_of};
 ghost use Rattle.block_reader.specs.Blocks.{read_block};

@@ -1,4 +1,6 @@
 // The call for C that says where the metrics of block k of a packet are.
+#![tactic(auto)]
+
 ghost use Rattle.std.specs.Prelude.{◌≡◌, [], ◌∷◌};
 ghost use Rattle.block_reader.specs.Blocks.{read_block};
 ghost use Rattle.ccfb_calls.specs.Called.{called};

@@ -1,5 +1,7 @@
 // CCFB packet k of a datagram, checked as the reader checks a packet. It accepts any octets, and answers or gives the
 // first refusal. All headers are checked first, those after packet k too.
+#![tactic(auto)]
+
 ghost use Rattle.std.specs.Prelude.{◌≤◌, ◌≡◌, length};
 ghost use Rattle.datagram.specs.Walk.{packet_end, packet_part, packets_from, packets_of};
 ghost use Rattle.datagram_reader.specs.Reading.{located_feedback, read_feedback, feedback_part, feedback_refusal};

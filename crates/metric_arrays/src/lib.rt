@@ -1,4 +1,6 @@
 // All metrics of a part decoded in one pass, into three arrays: cases, marks and offsets.
+#![tactic(auto)]
+
 ghost use Rattle.std.specs.Prelude.{◌≡◌, ◌*◌, ◌≤◌, length};
 ghost use Rattle.reader.specs.Reading.{metrics_at_of};
 ghost use Rattle.metric_arrays.specs.Arrays.{arrays, arrays_after, decoded_into, decoded_all};

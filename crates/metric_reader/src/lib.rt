@@ -1,5 +1,7 @@
 // The reader's answers about the metrics of a block of a packet: the part that holds them, and metric j of it. As the
 // reader of the whole packet it accepts any octets, and answers or gives the first refusal.
+#![tactic(auto)]
+
 ghost use Rattle.std.specs.Prelude.{◌≡◌};
 ghost use Rattle.block_reader.specs.Blocks.{read_block};
 ghost use Rattle.metric_reader.specs.Metrics.{block_refusal, metrics_part, read_metric};

@@ -1,4 +1,6 @@
 // Writes the metrics of a packet with each not-received one set to 0x0000.
+#![tactic(auto)]
+
 ghost use Rattle.std.specs.Prelude.{◌≡◌, map, ◌+◌, ◌*◌, ◌≤◌, length};
 ghost use Rattle.std.proofs.lemmas.List.Edits.{sets};
 ghost use Rattle.packet.specs.Packet.{encode_metrics};

@@ -1,4 +1,6 @@
 // Writes the packets of a report back to back.
+#![tactic(auto)]
+
 ghost use Rattle.std.specs.Prelude.{◌≡◌, map, ◌≤◌, length, take};
 ghost use Rattle.std.proofs.lemmas.List.Edits.{sets};
 ghost use Rattle.packet.specs.Sizes.{packet_octets};

@@ -1,5 +1,7 @@
 // Takes whole records of an arrival file into a store: each is an arrival. The last known time is kept, and the gap: the
 // most numbers that one arrival passed over.
+#![tactic(auto)]
+
 ghost use Rattle.std.specs.Prelude.{◌≡◌, ◌/◌, ◌≤◌, max, length, drop};
 ghost use Rattle.arrival_record.specs.Record.{record_octets};
 ghost use Rattle.arrival_file.specs.Pieces.{taken};

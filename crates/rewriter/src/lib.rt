@@ -1,4 +1,6 @@
 // The rewriter: writes a CCFB packet whose metrics with R = 0 become 0x0000.
+#![tactic(auto)]
+
 ghost use Rattle.std.specs.Prelude.{◌≡◌, ◌+◌, ◌≤◌, length};
 ghost use Rattle.std.proofs.lemmas.List.Edits.{sets};
 ghost use Rattle.octets.specs.Output.{output_after};

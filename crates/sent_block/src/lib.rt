@@ -1,4 +1,6 @@
 // Taking in a report block: what it says of each of its numbers is entered at the number's cell.
+#![tactic(auto)]
+
 ghost use Rattle.std.specs.Prelude.{◌≡◌, ◌+◌, ◌-◌, ◌*◌, ◌<◌, ◌≤◌, min, length};
 ghost use Rattle.ring.specs.Ring.{cells_of_a_place};
 ghost use Rattle.packet.specs.Sizes.{most_reports};
