@@ -19,11 +19,11 @@ const KIND_LATE: u16 = 2;
 const KIND_COPY: u16 = 3;
 
 // Hands over the kind of an arrival, and how many numbers it passed over.
-fn put_kind(arrival: &mut [u16; 2], kind: u16, passed_over: u16)
-    ensures content { arrival.new ≡ set (set arrival.old 0 kind) 1 passed_over }
+fn put_kind(arrival: &mut [u16; 2], kind: u16, passed: u16)
+    ensures content { arrival.new ≡ set (set arrival.old 0 kind) 1 passed }
 {
     arrival[0] = kind;
-    arrival[1] = passed_over;
+    arrival[1] = passed;
 }
 
 // Hands over the answer to an arrival of which this was decided: 0 and its kind, or the number of the refusal.

@@ -1,5 +1,7 @@
 // The call for C that reads metric j of block k of a packet. It has its own crate so that the compiler inlines the search
 // for the block; with a second caller it does not.
+#![tactic(auto)]
+
 ghost use Rattle.std.specs.Prelude.{◌≡◌, [], ◌∷◌};
 ghost use Rattle.metric_reader.specs.Metrics.{read_metric};
 ghost use Rattle.ccfb_calls.specs.Called.{called};

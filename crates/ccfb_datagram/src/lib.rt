@@ -1,5 +1,7 @@
 // The calls for C that find packets in a datagram: how many CCFB packets there are, CCFB packet k, and packet after packet
 // of any type.
+#![tactic(auto)]
+
 ghost use Rattle.std.specs.Prelude.{◌≡◌, [], ◌∷◌};
 ghost use Rattle.datagram.specs.Walk.{packet_at_of, packets_of};
 ghost use Rattle.datagram_count.specs.Count.{count_of};

@@ -1,4 +1,6 @@
 // The call for C that rewrites a packet.
+#![tactic(auto)]
+
 ghost use Rattle.std.specs.Prelude.{◌≡◌};
 ghost use Rattle.reader.specs.Reading.{decode_packet};
 ghost use Rattle.rewriter.specs.Rewrite.{rewrite_of};

@@ -1,4 +1,6 @@
 // Takes an arrival file into a store, piece by piece.
+#![tactic(auto)]
+
 ghost use Rattle.std.specs.Prelude.{◌≡◌};
 ghost use Rattle.places.specs.Shape.{Shaped};
 ghost use Rattle.intake.specs.Intake.{at_start, intake_after, fed_of};

@@ -1,1 +1,2 @@
 // Theorems about reading and rewriting CCFB packets, in proofs/; there is no code here.
+#![tactic(auto)]

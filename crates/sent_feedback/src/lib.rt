@@ -1,4 +1,6 @@
 // Taking in a feedback packet: what it says of the numbers that were registered.
+#![tactic(auto)]
+
 ghost use Rattle.std.specs.Prelude.{◌≡◌, ◌*◌, length};
 ghost use Rattle.ring.specs.Ring.{cells_of_a_place};
 ghost use Rattle.walk.specs.Walk.{walk_from};

@@ -1,4 +1,6 @@
 // Writes reports on requests that were checked and are sound: the fewest packets possible.
+#![tactic(auto)]
+
 ghost use Rattle.std.specs.Prelude.{◌≡◌, ◌≤◌, take};
 ghost use Rattle.octets.specs.Output.{output_after};
 ghost use Rattle.places.specs.Shape.{Shaped};

@@ -1,4 +1,6 @@
 // Takes what is whole of the octets of an arrival file that are at hand: the header, and then records.
+#![tactic(auto)]
+
 ghost use Rattle.arrival_file.specs.Pieces.{taken_here};
 ghost use Rattle.recording.specs.Recorded.{recorded, after_record};
 ghost use Rattle.recording.specs.Steps.{TakenTo};

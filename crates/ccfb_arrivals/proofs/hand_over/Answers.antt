@@ -12,7 +12,7 @@ returns-in-First c =
 pub returns-in-Ahead : goal.returns-in-Ahead
 returns-in-Ahead c =
     record {
-      answer = rw (c.in-Ahead.is, ← c.passed_over.ensures.value) refl;
+      answer = rw c.in-Ahead.is refl;
       behind = rw (c.in-Ahead.is, ← c.passed_over.ensures.value) c.put_kind-in-Ahead.ensures.content;
     }
 
