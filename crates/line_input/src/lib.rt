@@ -1,4 +1,6 @@
 // Reads standard input, an arrival file, and takes its records into a store as they come.
+#![tactic(auto)]
+
 ghost use Rattle.std.specs.Prelude.{◌≤◌, ◌<◌, length};
 ghost use Rattle.arrival_record.specs.Record.{record_octets};
 ghost use Rattle.places.specs.Shape.{Shaped};

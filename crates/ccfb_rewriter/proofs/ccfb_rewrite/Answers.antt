@@ -9,7 +9,7 @@ pub returns-in-Written : goal.returns-in-Written
 returns-in-Written c =
     let args = c.args in
     record {
-      after = ap (λ (x : Rewriting). rewrite_called_by x c.rewrite-answer.new.1.0 args.written.now) (sym c.in-Written.is)
+      after = ap (λ (x : Rewriting). rewrite_called_by x c.rewrite-answer.new.out args.written.now) (sym c.in-Written.is)
           ∙ ap (λ (o : OutputAfter Rewriting). rewrite_called o args.written.now) c.rewrite-answer.ensures.after;
     }
 
@@ -18,6 +18,6 @@ returns-in-Refused c =
     let args = c.args in
     record {
       after = rw c.number.ensures.value
-          (ap (λ (x : Rewriting). rewrite_called_by x c.rewrite-answer.new.1.0 args.written.now) (sym c.in-Refused.is)
+          (ap (λ (x : Rewriting). rewrite_called_by x c.rewrite-answer.new.out args.written.now) (sym c.in-Refused.is)
           ∙ ap (λ (o : OutputAfter Rewriting). rewrite_called o args.written.now) c.rewrite-answer.ensures.after);
     }
