@@ -1,4 +1,4 @@
-use Rattle.std.proofs.Common.{sym, ◌∙◌, ⊎_elim, arith, rules}
+use Rattle.std.proofs.Common.{sym, ◌∙◌, arith}
 use Rattle.metric.proofs.Table.{after_row, over_row, else_row}
 use Rattle.arrival_offset.proofs.ato_of_age.Goals.{then-age-gt-LONGEST_AGE, else-age-gt-LONGEST_AGE}
 use Rattle.arrival_offset.proofs.ato_of_age.Goals as goal
