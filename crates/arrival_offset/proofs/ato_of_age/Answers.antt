@@ -13,6 +13,6 @@ returns-then-age-ge-AFTER_RTS c =
 pub returns-else-age-ge-AFTER_RTS : goal.returns-else-age-ge-AFTER_RTS
 returns-else-age-ge-AFTER_RTS c =
     elim c.if-age-gt-LONGEST_AGE.branch [
-      then-age-gt-LONGEST_AGE w ↦ record { value = w.offset-is ∙ sym (over_row _ w.if-age-gt-LONGEST_AGE.true c.if-age-ge-AFTER_RTS.false); bits = omega arith }
-    | else-age-gt-LONGEST_AGE w ↦ record { value = omega (arith, else_row _ w.if-age-gt-LONGEST_AGE.false); bits = omega arith }
+      | then-age-gt-LONGEST_AGE w ↦ record { value = w.offset-is ∙ sym (over_row _ w.if-age-gt-LONGEST_AGE.true c.if-age-ge-AFTER_RTS.false); bits = omega arith }
+      | else-age-gt-LONGEST_AGE w ↦ record { value = omega (arith, else_row _ w.if-age-gt-LONGEST_AGE.false); bits = omega arith }
     ]
