@@ -1,5 +1,4 @@
 use mathlib.Core.Path.{refl}
-use borrow.Author.Rules.{rules}
 use Rattle.admission.proofs.answer_of.Goals as goal
 
 pub returns-in-First : goal.returns-in-First

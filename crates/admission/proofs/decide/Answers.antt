@@ -1,6 +1,5 @@
 use Prim.Native.Nat.{◌≤◌}
 use mathlib.Core.Path.{◌≡◌, sym, ◌∙◌}
-use borrow.Author.Rules.{rules}
 use Rattle.metric.specs.Metric.{congested}
 use Rattle.places.specs.Shape.{Shaped}
 use Rattle.places.proofs.Shape.{ready_found, ready_free}

@@ -1,5 +1,4 @@
 use mathlib.Core.Path.{◌≡◌, sym, ◌∙◌}
-use borrow.Author.Rules.{rules}
 use Rattle.window.specs.Number.{move_of}
 use Rattle.places.specs.Place.{highest_at}
 use Rattle.admission.proofs.Decided.{later_by, late_empty, copy_filled}

@@ -1,5 +1,4 @@
 use native.Mathlib.Omega.{arith}
-use borrow.Author.Rules.{rules}
 use Rattle.admission.proofs.passed_over.Goals as goal
 
 pub returns-then-f-eq0 : goal.returns-then-f-eq0

@@ -4,7 +4,6 @@ use native.Mathlib.Omega.{arith}
 use lib.Dec.{eqb}
 use lib.ListN.{length}
 use borrow.Author.Tests.{eq-eqb, ne_eqb}
-use borrow.Author.Rules.{rules}
 use Rattle.ring.specs.Ring.{cells_of_a_place}
 use Rattle.places.specs.Shape.{shaped}
 use Rattle.places.proofs.Shape.{shaped_none, shaped_many, shaped_by}

@@ -1,4 +1,4 @@
-use Rattle.std.proofs.Common.{arith, rules}
+use Rattle.std.proofs.Common.{arith}
 use Rattle.arrival_offset.proofs.age.Goals as goal
 
 pub returns : goal.returns

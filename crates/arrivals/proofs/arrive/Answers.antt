@@ -1,4 +1,3 @@
-use borrow.Author.Rules.{rules}
 use Rattle.arrivals.proofs.Carried.{carried}
 use Rattle.arrivals.proofs.arrive.Goals as goal
 

@@ -3,7 +3,6 @@
 use Prim.Native.Nat.{◌<◌, ◌≤◌}
 use mathlib.Core.Path.{refl, subst}
 use native.Mathlib.Omega.{arith}
-use borrow.Author.Rules.{rules}
 use lib.ListN.{length}
 use Rattle.metric.specs.Metric.{congested}
 use Rattle.places.specs.Shape.{Ready}

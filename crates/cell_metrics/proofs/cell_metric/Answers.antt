@@ -1,6 +1,5 @@
 use mathlib.Core.Path.{refl, ◌∙◌}
 use Rattle.cell_metrics.specs.Metrics.{cell_metric}
-use borrow.Author.Rules.{rules}
 use Rattle.cell_metrics.proofs.cell_metric.Goals as goal
 
 pub returns : goal.returns

@@ -1,10 +1,8 @@
 use Prim.Native.Nat.{◌%◌}
 use mathlib.Core.Path.{sym, ap, ◌∙◌}
-use mathlib.Core.Logic.{⊎_elim}
 use native.Mathlib.Omega.{arith}
 use Rattle.metric.specs.Metric.{assembled_of}
 use Rattle.cell_metrics.proofs.Words.{metric_empty, metric_untimed, metric_timed}
-use borrow.Author.Rules.{rules}
 use Rattle.cell_metrics.proofs.metric_of_word.Goals.{then-kind-lt-LEAST_TIMED, else-kind-lt-LEAST_TIMED}
 use Rattle.cell_metrics.proofs.metric_of_word.Goals as goal
 
@@ -21,7 +19,7 @@ returns-else-kind-lt-LEAST_FILLED c =
     let field = assembled_of (args.word % 4) in
     record {
       value = elim c.if-kind-lt-LEAST_TIMED.branch [
-            then-kind-lt-LEAST_TIMED w ↦ c.assembled-filled.ensures.value ∙ ap field w.ato-is ∙ sym (metric_untimed args.word args.rts c.if-kind-lt-LEAST_FILLED.false w.if-kind-lt-LEAST_TIMED.true)
-          | else-kind-lt-LEAST_TIMED w ↦ c.assembled-filled.ensures.value ∙ ap field w.ato-is ∙ rw (c.ato_of_age-timed.ensures.value, c.age.ensures.value) (sym (metric_timed _ _ w.if-kind-lt-LEAST_TIMED.false))
-          ];
+        | then-kind-lt-LEAST_TIMED w ↦ c.assembled-filled.ensures.value ∙ ap field w.ato-is ∙ sym (metric_untimed args.word args.rts c.if-kind-lt-LEAST_FILLED.false w.if-kind-lt-LEAST_TIMED.true)
+        | else-kind-lt-LEAST_TIMED w ↦ c.assembled-filled.ensures.value ∙ ap field w.ato-is ∙ rw (c.ato_of_age-timed.ensures.value, c.age.ensures.value) (sym (metric_timed _ _ w.if-kind-lt-LEAST_TIMED.false))
+      ];
     }

@@ -2,7 +2,6 @@ use Prim.Native.Nat.{◌%◌}
 use mathlib.Core.Path.{refl}
 use native.Mathlib.Omega.{arith}
 use Rattle.cells.proofs.Words.{folded_small}
-use borrow.Author.Rules.{rules}
 use Rattle.cells.proofs.copied_word.Goals as goal
 
 pub fold_mark-requires : goal.fold_mark-requires

@@ -1,5 +1,4 @@
 use mathlib.Core.Path.{refl}
-use borrow.Author.Rules.{rules}
 use Rattle.cells.proofs.filled_word.Goals as goal
 
 pub returns-in-Unknown : goal.returns-in-Unknown

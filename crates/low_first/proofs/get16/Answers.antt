@@ -1,7 +1,6 @@
 use Prim.Native.Nat.{◌+◌}
 use native.Mathlib.Omega.{arith}
 use Rattle.low_first.proofs.Parts.{swapped}
-use borrow.Author.Rules.{rules}
 use Rattle.low_first.proofs.get16.Goals as goal
 
 pub returns : goal.returns

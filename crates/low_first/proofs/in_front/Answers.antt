@@ -1,4 +1,3 @@
-use borrow.Author.Rules.{rules}
 use Rattle.low_first.proofs.in_front.Goals as goal
 
 pub returns : goal.returns

@@ -1,6 +1,5 @@
 use mathlib.Core.Path.{◌≡◌, refl}
 use mathlib.Core.Bool.{true}
-use borrow.Author.Rules.{rules}
 use Rattle.metric.proofs.time_of.Goals as goal
 
 pub returns-then-known : goal.returns-then-known

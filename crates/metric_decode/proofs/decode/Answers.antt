@@ -1,7 +1,6 @@
 use mathlib.Core.Path.{sym}
 use native.Mathlib.Omega.{arith}
 use Rattle.metric.proofs.Decoded.{reads_not_received, reads_offset, reads_over_range, reads_no_time}
-use borrow.Author.Rules.{rules}
 use Rattle.metric_decode.proofs.decode.Goals as goal
 
 pub returns-then-m-lt-RECEIVED_BIT : goal.returns-then-m-lt-RECEIVED_BIT

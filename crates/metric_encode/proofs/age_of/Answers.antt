@@ -1,5 +1,4 @@
 use native.Mathlib.Omega.{arith}
-use borrow.Author.Rules.{rules}
 use Rattle.metric.proofs.Table.{after_row}
 use Rattle.metric_encode.proofs.age_of.Goals as goal
 

@@ -1,5 +1,4 @@
 use mathlib.Core.Path.{refl}
-use borrow.Author.Rules.{rules}
 use Rattle.metric_encode.proofs.encode.Goals as goal
 
 pub returns-in-Empty : goal.returns-in-Empty

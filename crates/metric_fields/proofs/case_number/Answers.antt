@@ -1,6 +1,5 @@
 use native.Mathlib.Omega.{arith}
 use Rattle.metric_fields.proofs.Bits.{number_read}
-use borrow.Author.Rules.{rules}
 use Rattle.metric_fields.proofs.case_number.Goals as goal
 
 pub returns : goal.returns

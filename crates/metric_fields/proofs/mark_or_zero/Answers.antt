@@ -1,5 +1,4 @@
 use Rattle.metric_fields.proofs.Bits.{mark_read}
-use borrow.Author.Rules.{rules}
 use Rattle.metric_fields.proofs.mark_or_zero.Goals as goal
 
 pub returns : goal.returns

@@ -1,5 +1,4 @@
 use Rattle.metric_fields.proofs.Bits.{offset_read, offset_none}
-use borrow.Author.Rules.{rules}
 use Rattle.metric_fields.proofs.offset_or_zero.Goals as goal
 
 pub returns-then-ato-gt-LARGEST_OFFSET : goal.returns-then-ato-gt-LARGEST_OFFSET

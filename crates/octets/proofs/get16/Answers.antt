@@ -1,4 +1,3 @@
-use borrow.Author.Rules.{rules}
 use Rattle.octets.specs.Octets.{be16}
 use Rattle.octets.proofs.get16.Goals as goal
 

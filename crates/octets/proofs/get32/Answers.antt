@@ -1,5 +1,4 @@
 use mathlib.Core.Path.{refl}
-use borrow.Author.Rules.{rules}
 use Rattle.octets.specs.Octets.{be32}
 use Rattle.octets.proofs.get32.Goals as goal
 

@@ -1,11 +1,8 @@
 -- The invariant: what is still to be moved gives the whole.
 use Prim.Native.Nat.{◌+◌, ◌-◌, ◌≤◌}
-use mathlib.Core.Path.{◌≡◌, refl, sym, ◌∙◌}
-use native.Mathlib.Omega.{arith}
-use native.Mathlib.Nat.{add-zero}
-use lib.ListN.{length, drop, length-set}
+use mathlib.Core.Path.{◌≡◌}
+use lib.ListN.{length, drop}
 use lib.Seq.{sets}
-use Rattle.octets_move.proofs.Front.{one_moved, none_moved}
 use Rattle.octets_move.proofs.move_to_front.Given as goal
 
 abbrev pub invariant-loop-i : goal.invariant-loop-i

@@ -1,7 +1,6 @@
 -- `octets_put::put32` meets its contract: two writes, back to back.
 use Prim.Native.Nat.{◌/◌, ◌%◌}
 use native.Mathlib.Omega.{arith}
-use borrow.Author.Rules.{rules}
 use Rattle.octets.specs.Octets.{half_values, octets16}
 use Rattle.octets.proofs.Sets.{sets_twice}
 use Rattle.octets_put.proofs.put32.Goals as goal

@@ -1,11 +1,9 @@
-use Prim.Native.Nat.{◌-◌, ◌≤◌}
-use mathlib.Core.Path.{◌≡◌, sym, ◌∙◌}
+use mathlib.Core.Path.{sym, ◌∙◌}
 use native.Mathlib.Nat.{sub-zero}
 use native.Mathlib.Omega.{arith}
 use borrow.Author.Rules.{rules}
-use Rattle.lists.specs.First.{first_from}
 use Rattle.lists.proofs.First.{first_hit, first_miss, first_none}
-use Rattle.oldest.specs.Steps.{filled_at, first_filled}
+use Rattle.oldest.specs.Steps.{filled_at}
 use Rattle.oldest.proofs.Words.{word_filled, word_empty}
 use Rattle.oldest.proofs.first_filled.Goals as goal
 

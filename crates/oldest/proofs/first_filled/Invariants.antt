@@ -1,14 +1,9 @@
 -- The invariant: the search starting at i finds what
 -- the search starting at 0 finds.
 use Prim.Native.Nat.{◌-◌, ◌≤◌}
-use mathlib.Core.Path.{◌≡◌, sym, ◌∙◌}
-use native.Mathlib.Nat.{sub-zero}
-use native.Mathlib.Omega.{arith}
-use borrow.Author.Rules.{rules}
+use mathlib.Core.Path.{◌≡◌}
 use Rattle.lists.specs.First.{first_from}
-use Rattle.lists.proofs.First.{first_hit, first_miss, first_none}
 use Rattle.oldest.specs.Steps.{filled_at, first_filled}
-use Rattle.oldest.proofs.Words.{word_filled, word_empty}
 use Rattle.oldest.proofs.first_filled.Given as goal
 
 abbrev pub invariant-loop-i : goal.invariant-loop-i

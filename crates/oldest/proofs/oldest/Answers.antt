@@ -1,8 +1,6 @@
 use mathlib.Core.Path.{◌≡◌, sym, ◌∙◌}
 use mathlib.Core.Bool.{true}
 use native.Mathlib.Omega.{arith}
-use borrow.Author.Rules.{rules}
-use borrow.Author.Tests.{not-true, not-false}
 use Rattle.places.specs.Shape.{shaped}
 use Rattle.places.proofs.Shape.{is_shaped}
 use Rattle.oldest.proofs.Calls.{oldest_misshapen, oldest_held, oldest_free, oldest_past}

@@ -1,7 +1,6 @@
 use Prim.Native.Nat.{◌+◌, ◌*◌, ◌<◌}
 use mathlib.Core.Path.{◌≡◌, sym, ◌∙◌}
 use native.Mathlib.Omega.{arith}
-use borrow.Author.Rules.{rules}
 use Rattle.lists.proofs.First.{first_below}
 use Rattle.ring.specs.Ring.{cells_of_a_place}
 use Rattle.oldest.specs.Steps.{first_filled}

@@ -1,4 +1,3 @@
-use borrow.Author.Rules.{rules}
 use Rattle.oldest.proofs.window_number.Goals as goal
 
 pub returns : goal.returns

@@ -1,5 +1,4 @@
 use native.Mathlib.Omega.{arith}
-use borrow.Author.Rules.{rules}
 use Rattle.place_window.proofs.cell_index.Goals as goal
 
 pub returns : goal.returns

@@ -1,6 +1,5 @@
 use mathlib.Core.Path.{sym}
 use native.Mathlib.Omega.{arith}
-use borrow.Author.Rules.{rules}
 use Rattle.ring.proofs.Ring.{emptied_none}
 use Rattle.place_window.proofs.empty_others.Goals as goal
 

@@ -1,5 +1,4 @@
 use mathlib.Core.Path.{◌∙◌}
-use borrow.Author.Rules.{rules}
 use Rattle.places.proofs.Places.{find_from_first}
 use Rattle.places.proofs.find.Goals as goal
 

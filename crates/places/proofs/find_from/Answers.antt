@@ -1,9 +1,6 @@
-use Prim.Native.Nat.{◌-◌}
-use mathlib.Core.Path.{◌≡◌, refl, sym, ◌∙◌}
+use mathlib.Core.Path.{refl, sym, ◌∙◌}
 use borrow.Author.Rules.{rules}
-use lib.ListN.{length}
 use Rattle.lists.proofs.First.{first_hit, first_miss, first_none}
-use Rattle.places.specs.Place.{find_from}
 use Rattle.places.proofs.Places.{stream_is, stream_not}
 use Rattle.places.proofs.find_from.Goals as goal
 

@@ -1,12 +1,9 @@
 -- The invariant: the search starting at i finds what the search starting at `from`
 -- finds.
 use Prim.Native.Nat.{◌-◌}
-use mathlib.Core.Path.{◌≡◌, refl, sym, ◌∙◌}
-use borrow.Author.Rules.{rules}
+use mathlib.Core.Path.{◌≡◌}
 use lib.ListN.{length}
-use Rattle.lists.proofs.First.{first_hit, first_miss, first_none}
 use Rattle.places.specs.Place.{find_from}
-use Rattle.places.proofs.Places.{stream_is, stream_not}
 use Rattle.places.proofs.find_from.Given as goal
 
 abbrev pub invariant-loop-i : goal.invariant-loop-i

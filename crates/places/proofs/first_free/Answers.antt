@@ -1,11 +1,7 @@
-use Prim.Native.Nat.{◌-◌, ◌≤◌}
-use mathlib.Core.Path.{◌≡◌, sym, ◌∙◌}
+use mathlib.Core.Path.{sym, ◌∙◌}
 use native.Mathlib.Nat.{sub-zero}
 use borrow.Author.Rules.{rules}
-use lib.ListN.{length}
-use Rattle.lists.specs.First.{first_from}
 use Rattle.lists.proofs.First.{first_hit, first_miss, first_none}
-use Rattle.places.specs.Place.{free, free_of}
 use Rattle.places.proofs.Places.{free_is, free_not}
 use Rattle.places.proofs.first_free.Goals as goal
 

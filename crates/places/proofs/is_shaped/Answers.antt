@@ -1,7 +1,6 @@
 use mathlib.Core.Path.{sym}
 use native.Mathlib.Omega.{arith}
 use Rattle.places.proofs.Shape.{shaped_none, shaped_many, shaped_by}
-use borrow.Author.Rules.{rules}
 use Rattle.places.proofs.is_shaped.Goals as goal
 
 pub returns-then-n-eq0 : goal.returns-then-n-eq0

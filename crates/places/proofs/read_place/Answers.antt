@@ -1,6 +1,5 @@
 use mathlib.Core.Path.{sym}
 use Rattle.places.proofs.Places.{read_held, read_free}
-use borrow.Author.Rules.{rules}
 use Rattle.places.proofs.read_place.Goals as goal
 
 pub returns-then-word-eq1 : goal.returns-then-word-eq1

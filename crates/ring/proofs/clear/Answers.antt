@@ -1,10 +1,7 @@
-use Prim.Native.Nat.{◌+◌, ◌-◌, ◌≤◌}
-use mathlib.Core.Path.{◌≡◌, refl, sym, ◌∙◌}
-use native.Mathlib.Omega.{arith}
+use mathlib.Core.Path.{refl, sym, ◌∙◌}
 use native.Mathlib.Nat.{add-zero, sub-zero}
 use borrow.Author.Rules.{rules}
-use lib.ListN.{length, length-set}
-use Rattle.ring.specs.Steps.{cleared}
+use lib.ListN.{length-set}
 use Rattle.ring.proofs.Ring.{cleared_next, cleared_none}
 use Rattle.ring.proofs.clear.Goals as goal
 

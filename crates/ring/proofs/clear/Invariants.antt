@@ -1,13 +1,9 @@
 -- The invariant: what is left to do, done to the words as they are, gives what the
 -- whole did to the words at entry.
 use Prim.Native.Nat.{◌+◌, ◌-◌, ◌≤◌}
-use mathlib.Core.Path.{◌≡◌, refl, sym, ◌∙◌}
-use native.Mathlib.Omega.{arith}
-use native.Mathlib.Nat.{add-zero, sub-zero}
-use borrow.Author.Rules.{rules}
-use lib.ListN.{length, length-set}
+use mathlib.Core.Path.{◌≡◌}
+use lib.ListN.{length}
 use Rattle.ring.specs.Steps.{cleared}
-use Rattle.ring.proofs.Ring.{cleared_next, cleared_none}
 use Rattle.ring.proofs.clear.Given as goal
 
 abbrev pub invariant-loop-i : goal.invariant-loop-i

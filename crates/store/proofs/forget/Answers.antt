@@ -2,12 +2,10 @@ use Prim.Native.Nat.{◌<◌}
 use mathlib.Core.Path.{◌≡◌, sym, ◌∙◌}
 use mathlib.Core.Bool.{true}
 use native.Mathlib.Omega.{arith}
-use borrow.Author.Tests.{not-true, not-false}
 use lib.ListN.{length}
 use Rattle.places.specs.Shape.{shaped}
 use Rattle.places.proofs.Shape.{is_shaped, ready_found}
 use Rattle.store.proofs.Calls.{forgotten_misshapen, forgotten_held, forgotten_none}
-use borrow.Author.Rules.{rules}
 use Rattle.store.proofs.forget.Goals.{Else-not-sound, In-At}
 use Rattle.store.proofs.forget.Goals as goal
 

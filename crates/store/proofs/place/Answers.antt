@@ -1,9 +1,7 @@
 use mathlib.Core.Path.{◌≡◌, sym, ◌∙◌}
 use mathlib.Core.Bool.{true}
-use borrow.Author.Tests.{not-true, not-false}
 use Rattle.places.specs.Shape.{shaped}
 use Rattle.store.proofs.Calls.{place_misshapen, place_past, place_answered}
-use borrow.Author.Rules.{rules}
 use Rattle.store.proofs.place.Goals.{Else-not-sound}
 use Rattle.store.proofs.place.Goals as goal
 

@@ -1,4 +1,4 @@
-use Rattle.std.proofs.Common.{◌≡◌, sym, ap, ◌∙◌, arith, rules}
+use Rattle.std.proofs.Common.{◌≡◌, sym, ap, ◌∙◌, arith}
 use Rattle.window.specs.Number.{distance_of}
 use Rattle.window.proofs.Number.{move_ahead, move_within, move_old}
 use Rattle.window.specs.declared.Move.TheVariants.{Ahead, Within}
