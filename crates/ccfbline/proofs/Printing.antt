@@ -15,12 +15,8 @@ use Rattle.line_store.specs.Fresh.{fresh_places, fresh_cells}
 use Rattle.line.specs.Line.{text_room, finished_text}
 use Rattle.line_laws.proofs.Printed.{prints_held}
 use Rattle.line_input.specs.Turn.{buffer_octets}
-use Rattle.line_input.specs.Taken.{PiecesTaken, InputTaken}
-use Rattle.line_input.specs.declared.Input.{Input}
-use Rattle.line_input.specs.declared.Input.TheVariants.{Taken}
-use Rattle.ccfbline.specs.Output.{TextFor, OutputFor}
-use Rattle.ccfbline.specs.declared.Output.{Output}
-use Rattle.ccfbline.specs.declared.Output.TheVariants.{Text}
+use Rattle.line_input.specs.Taken.{PiecesTaken}
+use Rattle.ccfbline.specs.Output.{TextFor}
 
 octets_join : (s t : List ℕ) → Octets s → Octets t → Octets (s ++ t)
 octets_join [] t o q = q
@@ -31,7 +27,7 @@ unfolding flatten
 octets_flatten [] o = tt
 octets_flatten (p ∷ ps) o = octets_join p (flatten ps) o.0 (octets_flatten ps o.1)
 
-text_for : (i : Intake) (places cells buf : List ℕ) → buffer_octets ≤ length buf
+pub text_for : (i : Intake) (places cells buf : List ℕ) → buffer_octets ≤ length buf
     → PiecesTaken (intake_after at_start fresh_places fresh_cells []) (intake_after i places cells buf)
     → (out exit : List ℕ) (n : ℕ) → output_after n exit ≡ put_text out (finished_text places cells i) → n ≤ text_room → TextFor out n exit
 text_for i places cells buf room taken out exit n e fits =
@@ -48,21 +44,8 @@ text_for i places cells buf room taken out exit n e fits =
     }
 
 -- what was taken into a store that is known by another name
-taken_into : (places places₀ cells cells₀ : List ℕ) (after : IntakeAfter) → places₀ ≡ places → cells₀ ≡ cells
+pub taken_into : (places places₀ cells cells₀ : List ℕ) (after : IntakeAfter) → places₀ ≡ places → cells₀ ≡ cells
     → PiecesTaken (intake_after at_start places₀ cells₀ []) after → PiecesTaken (intake_after at_start places cells []) after
 taken_into places places₀ cells cells₀ after p c t =
     subst (λ (x : List ℕ). PiecesTaken (intake_after at_start x cells []) after) p
     (subst (λ (x : List ℕ). PiecesTaken (intake_after at_start places₀ x []) after) c t)
-
--- the same, from what the calls of `put_output` say
-pub text_of : (places₀ cells₀ : List ℕ) → places₀ ≡ fresh_places → cells₀ ≡ fresh_cells
-    → (input : Input) (i : Intake) (places cells buf : List ℕ) → InputTaken places₀ cells₀ input places cells buf → input ≡ Taken i
-    → buffer_octets ≤ length buf
-    → (out exit : List ℕ) (n : ℕ) → output_after n exit ≡ put_text out (finished_text places cells i) → n ≤ text_room → TextFor out n exit
-text_of places₀ cells₀ p c input i places cells buf taken e room =
-    text_for i places cells buf room
-    (taken_into fresh_places places₀ fresh_cells cells₀ (intake_after i places cells buf) p c
-    (subst (λ (x : Input). InputTaken places₀ cells₀ x places cells buf) e taken))
-
-pub text_fits : (out : List ℕ) (r : Output) (n : ℕ) (exit : List ℕ) → OutputFor out r exit → r ≡ Text n → n ≤ text_room
-text_fits out r n exit h e = let t : TextFor out n exit = subst (λ (x : Output). OutputFor out x exit) e h in t.fits

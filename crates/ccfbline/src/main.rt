@@ -1,49 +1,46 @@
 // Takes an arrival file on standard input, and prints the feedback on its streams and the gap, or the file's first
 // fault.
+#![tactic(auto)]
+
 ghost use Rattle.std.specs.Prelude.{◌≤◌, length};
 ghost use Rattle.line.specs.Line.{text_room};
 ghost use Rattle.ccfbline.specs.Output.{OutputFor};
 
-use libc::STDOUT_FILENO;
-use line_input::Input;
+use std::io;
+use std::io::Read;
 
-// What is to be printed, as so many octets at the front of the output; or the input could not be read.
-#[derive(Drop)]
-enum Output {
-    Text(usize),
-    Failed,
-}
-
-// Takes the input into a fresh store, and writes what is to be printed to the front of the output.
-fn put_output(out: &mut [u8]) -> Output
+// Takes the input into a fresh store, and writes what is to be printed, so many octets, to the front of the output.
+fn put_output<R: Read>(input: &mut R, out: &mut [u8]) -> io::Result<usize>
     requires room { text_room ≤ length out.old }
     ensures after { OutputFor out.old result out.new }
 {
     let mut places = line_store::fresh_places();
     let mut cells = line_store::fresh_cells();
-    let mut buf = io::large_buffer();
-    let input = line_input::take_input(&mut places, &mut cells, &mut buf);
-    match input {
-        Input::Taken(intake) => {
+    let mut buf = [0; 65536];
+    match line_input::take_input(input, &mut places, &mut cells, &mut buf) {
+        Ok(intake) => {
             let n = line::finish(&places, &cells, intake, out);
-            Output::Text(n)
+            Ok(n)
         }
-        Input::Failed => Output::Failed,
+        Err(e) => Err(e),
     }
 }
 
-fn print(text: &[u8]) {
-    let written = io::write_all(STDOUT_FILENO, text);
-    if !written {
-        os::fail(b"ccfbline: standard output");
+// Says on standard error what failed, and why. If that fails too, nobody is left to be told.
+fn complain(rt: &impl Eprint, what: &str, e: io::Error) {
+    let _ = eprintln!(rt; "ccfbline: {what}: {e}");
+}
+
+fn print(rt: &(impl Print + Eprint), text: &[u8]) {
+    if let Err(e) = rt.write_all(text) {
+        complain(rt, "standard output", e);
     }
 }
 
-fn main() {
-    let mut out = io::buffer();
-    let output = put_output(&mut out);
-    match output {
-        Output::Text(n) => print(&out[..n]),
-        Output::Failed => os::fail(b"ccfbline: standard input"),
+fn main(rt: HostRuntime) {
+    let mut out = [0; 4096];
+    match put_output(&mut rt.stdin(), &mut out) {
+        Ok(n) => print(&rt, &out[..n]),
+        Err(e) => complain(&rt, "standard input", e),
     }
 }

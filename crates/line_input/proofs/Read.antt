@@ -1,33 +1,30 @@
 -- What a read into the buffer leaves, and what one read after another does. Assumes nothing.
 use Prim.Native.Nat.{ℕ, zero, suc, ◌+◌, ◌-◌, ◌≤◌, ◌<◌}
-use mathlib.Core.Path.{◌≡◌, sym, ap, ◌∙◌, subst}
+use mathlib.Core.Path.{◌≡◌, sym, ap, ◌∙◌}
 use mathlib.Core.List.{List, [], ◌∷◌, ◌++◌, foldl, foldl-append}
 use native.Mathlib.Omega.{arith}
+use Rattle.std.proofs.Common.{Fits, w8}
 use borrow.Rule.Slice.PartMut.{put_mid, take_put}
 use lib.ListN.{length, get_or, take, drop, length-take, length-drop}
 use lib.Seq.{take-add, take-append-le, length-take-le}
 use Rattle.lists.proofs.All.{all_append}
-use Rattle.lists.proofs.Cases.{never}
-use Rattle.octets.specs.Octets.{Octets, octet_values}
+use Rattle.octets.specs.Octets.{Octets}
 use Rattle.octets.proofs.Small.{octets_from}
-use Rattle.places.specs.Shape.{Shaped}
 use Rattle.arrival_record.specs.Record.{record_octets}
 use Rattle.recording.specs.Recorded.{Recorded, after_record}
 use Rattle.arrival_file.specs.Pieces.{Feeding, fed}
-use Rattle.intake.specs.Intake.{IntakeAfter, intake_after, at_start, fed_of, fed_next, held_in}
+use Rattle.intake.specs.Intake.{IntakeAfter, intake_after, fed_of, fed_next, held_in}
 use Rattle.intake.specs.declared.Intake.{Intake}
 use Rattle.intake.proofs.Pieces.{one_call, one_left}
-use Rattle.line_input.specs.Turn.{Short, PieceTaken, NoFault, LastTaken, at_end, at_fault, TurnTaken}
+use Rattle.line_input.specs.Turn.{PieceTaken, NoFault, LastTaken, at_end, at_fault}
 use Rattle.line_input.specs.Taken.{StopsAtFault, PiecesTaken}
-use Rattle.line_input.specs.declared.Turn.{Turn}
-use Rattle.line_input.specs.declared.Turn.TheVariants.{More, Done}
 
 -- ---- octets
 
 -- a list is of octets where each element is one
-octets_by : (s : List ℕ) → ((k : ℕ) → get_or s k 0 < octet_values) → Octets s
+octets_by : (s : List ℕ) → ((k : ℕ) → Fits w8 (get_or s k 0)) → Octets s
 octets_by [] h = tt
-octets_by (x ∷ s) h = (h 0, octets_by s (λ k. h (suc k)))
+octets_by (x ∷ s) h = let first : Fits w8 x = h 0 in (omega arith, octets_by s (λ k. h (suc k)))
 
 octets_first : (n : ℕ) (s : List ℕ) → Octets s → Octets (take n s)
 octets_first zero s o = tt
@@ -47,17 +44,17 @@ next_front o piece rest =
     let q : IntakeAfter = fed_next o piece in
     held_front q rest (omega (arith, one_left o piece, length-take q.intake.left q.octets))
 
-module _ (i : Intake) (places cells buf back : List ℕ) (room : i.left ≤ length buf) where
-  -- the buffer after a read: what was left stays at its front
-  abbrev read : List ℕ
-  read = put_mid i.left (length buf - i.left) buf back
+-- the buffer after a read behind the octets that are left
+abbrev pub read_into : ℕ → List ℕ → List ℕ → List ℕ
+read_into left buf back = put_mid left (length buf - left) buf back
 
+module _ (i : Intake) (places cells buf back : List ℕ) (room : i.left ≤ length buf) where
+  abbrev read : List ℕ
+  read = read_into i.left buf back
+
+  -- what was left stays at its front
   stays : take i.left read ≡ take i.left buf
   stays = take_put i.left (length buf - i.left) buf back room
-
-  -- nothing was read
-  pub ended_is : held_in (intake_after i places cells read) ≡ held_in (intake_after i places cells buf)
-  ended_is = rw stays
 
   -- a piece of n octets was read
   module _ (n : ℕ) where
@@ -67,7 +64,7 @@ module _ (i : Intake) (places cells buf back : List ℕ) (room : i.left ≤ leng
     lent : take (i.left + n) read ≡ take i.left buf ++ next
     lent = take-add i.left n read ∙ ap (λ (s : List ℕ). s ++ next) stays
 
-    pub piece_taken : ((k : ℕ) → get_or read k 0 < octet_values) → 0 < n → i.left + n ≤ length read
+    pub piece_taken : ((k : ℕ) → Fits w8 (get_or read k 0)) → 0 < n → i.left + n ≤ length read
         → (r : Intake) (places' cells' s rest : List ℕ) → intake_after r places' cells' s ≡ fed_of places cells i (take (i.left + n) read)
         → PieceTaken (intake_after i places cells buf) (intake_after r places' cells' (s ++ rest))
     piece_taken octet some within r places' cells' s rest e =
@@ -86,10 +83,6 @@ module _ (i : Intake) (places cells buf back : List ℕ) (room : i.left ≤ leng
 -- pieces were read, and the next may be
 abbrev pub Going : IntakeAfter → IntakeAfter → Type 0
 Going first now = PiecesTaken first now × NoFault now
-
-pub none_taken : (i : Intake) (places cells buf : List ℕ) → i ≡ at_start → Going (intake_after at_start places cells []) (intake_after i places cells buf)
-none_taken i places cells buf e =
-    (record { pieces = []; octets = tt; stops = tt; is = rw e; few = rw e (omega arith) }, λ q h. let s = ap (λ (x : Intake). x.phase) e in never (cc))
 
 stops_last : (o : IntakeAfter) (ps : List (List ℕ)) (p : List ℕ) → StopsAtFault o ps → NoFault (foldl fed_next o ps) → StopsAtFault o (ps ++ p ∷ [])
 stops_last o [] p s clear = (clear, tt)
@@ -122,22 +115,10 @@ module _ (first now after : IntakeAfter) (going : Going first now) (few : after.
   the_last (at_fault e h p) = one_more p
 
 -- what a turn leaves, by its answer
-module _ (first now : IntakeAfter) (going : Going first now) (r : Turn) (i : Intake) (places cells buf : List ℕ)
-    (turn : TurnTaken now r places cells buf × Short r) where
-  turned : (q : Turn) → r ≡ q → TurnTaken now q places cells buf × Short q
-  turned q e = subst (λ (q : Turn). TurnTaken now q places cells buf × Short q) e turn
+module _ (first now : IntakeAfter) (going : Going first now) (i : Intake) (places cells buf : List ℕ) (few : i.left < record_octets) where
+  pub more_taken : PieceTaken now (intake_after i places cells buf) × NoFault (intake_after i places cells buf)
+      → Going first (intake_after i places cells buf)
+  more_taken t = (one_more first now (intake_after i places cells buf) going few t.0, t.1)
 
-  pub more_taken : r ≡ More i → Going first (intake_after i places cells buf)
-  more_taken e =
-      let t = turned (More i) e in
-      (one_more first now (intake_after i places cells buf) going t.1 t.0.0, t.0.1)
-
-  pub last_taken : r ≡ Done i → PiecesTaken first (intake_after i places cells buf)
-  last_taken e =
-      let t = turned (Done i) e in
-      the_last first now (intake_after i places cells buf) going t.1 t.0
-
--- a store that keeps its lengths keeps its shape
-pub shape_kept : (places cells places' cells' : List ℕ) → Shaped places cells → length places' ≡ length places → length cells' ≡ length cells
-    → Shaped places' cells'
-shape_kept places cells places' cells' s p c = record { some = omega arith; few = omega arith; sized = omega arith }
+  pub last_taken : LastTaken now (intake_after i places cells buf) → PiecesTaken first (intake_after i places cells buf)
+  last_taken t = the_last first now (intake_after i places cells buf) going few t
