@@ -1,5 +1,7 @@
 // The calls for C of a sender: they register a sent number, take in a feedback packet, and say what is known of a number,
 // in a store that the caller lends: the "board" of the customers.
+#![tactic(auto)]
+
 ghost use Rattle.std.specs.Prelude.{◌≡◌, [], ◌∷◌};
 ghost use Rattle.places.specs.After.{store_after};
 ghost use Rattle.sent_register.specs.Register.{registered};

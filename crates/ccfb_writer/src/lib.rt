@@ -1,5 +1,7 @@
 // The C call that writes reports on streams of a store that the caller lends. All that is lent has one lifetime: the
 // proof of `ccfb_write` carries one token.
+#![tactic(auto)]
+
 ghost use Rattle.std.specs.Prelude.{◌≡◌, length, take};
 ghost use Rattle.writer.specs.Written.{written};
 ghost use Rattle.ccfb_writer.specs.Writing.{wrote, write_called};

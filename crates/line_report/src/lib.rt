@@ -1,4 +1,6 @@
 // The report that ccfbline prints on four numbers of each stream: one packet as a line, or the writer's refusal.
+#![tactic(auto)]
+
 ghost use Rattle.std.specs.Prelude.{◌≡◌, ◌≤◌, length, take};
 ghost use Rattle.octets.specs.Output.{output_after};
 ghost use Rattle.places.specs.Shape.{most_places};

@@ -1,4 +1,6 @@
 // Writes reports on streams of the store as CCFB packets: the fewest packets possible.
+#![tactic(auto)]
+
 ghost use Rattle.std.specs.Prelude.{◌≡◌, take};
 ghost use Rattle.octets.specs.Output.{output_after};
 ghost use Rattle.writer.specs.Written.{written};

@@ -1,5 +1,4 @@
 -- `ccfb_writer::ccfb_write` meets its contract: a walk of its MIR, by hand. All that the walk knows of
--- `gathered` and of `write_array` is that each meets its contract. Assumes nothing.
 use mathlib.Core.Path.{◌≡◌, refl, ap, ◌∙◌}
 use mathlib.Core.List.{List, [], ◌∷◌, ◌++◌}
 use Prim.Native.Nat.{ℕ, ◌<◌, ◌^◌}
@@ -56,6 +55,7 @@ use Rattle.ccfb_writer.specs.contracts.ccfb_write as f
 use Rattle.ccfb_writer.proofs.ccfb_write.Statement as stated
 use Rattle.ccfb_writer.proofs.ccfb_write.Code as code
 use Rattle.ccfb_writer.proofs.ccfb_write.Code.Mir as body
+use Rattle.ccfb_writer.proofs.ccfb_write.Goals as goal
 
 abbrev R : RattleType
 R = T.the_row
@@ -184,17 +184,3 @@ module _ {M : Type 1} {𝓤 : Ura M} (𝓛 : Logic 𝓤) (mem : Memory → SProp
         ends ! f.ended (f.clauses 𝓛 mem run) bound u' r' ws'.1
         (fact_i 𝓤 _ (emp 𝓤) (e' ∙ ap (λ (o : OutputAfter Answer). write_called o packets.now octets.now)
         (lent places.now cells.now sender rts limit requests.now out.now))))))))))
-
-pub ccfb-write-spec : {M : Type 1} → stated.statement M
-unfolding code.routine tables_of
-ccfb-write-spec 𝓤 𝓛 𝓜 𝓡 =
-    let 𝓣 : Tables 𝓤 𝓛.H = tables_of 𝓤 𝓛.H 𝓜 (tables 𝓤 𝓛.H 𝓜 𝓡 code.env) in
-    entered 𝓤 𝓛.H (triple_of 𝓛 f.signature (f.spec 𝓛 𝓜.mem 𝓡.run)) (tables 𝓤 𝓛.H 𝓜 𝓡 code.env).C
-    (tables 𝓤 𝓛.H 𝓜 𝓡 code.env).Λ #ccfb-write code.function (code.unfolded 𝓤 𝓛.H 𝓜 𝓡)
-    (meets 𝓛 f.ended (f.clauses 𝓛 𝓜.mem 𝓡.run) (WpFn 𝓤 𝓛.H 𝓣.C 𝓣.Λ code.function) spelled told
-    (λ κs qs bounds a _ are. walk 𝓛 𝓜.mem 𝓡.run κs.0 qs.0 a.0 a.1.0 a.1.1.0 a.1.1.1.0 a.1.1.1.1.0
-    a.1.1.1.1.1.0 a.1.1.1.1.1.1.0 a.1.1.1.1.1.1.1.0 a.1.1.1.1.1.1.1.1.0 𝓣.C 𝓣.Λ (fm_of 𝓤 𝓛.H 𝓛.laws 𝓣)
-    (cited 𝓤 𝓛.H (Terms 𝓛 g.ended (g.clauses 𝓛 𝓜.mem 𝓡.run)) 𝓜 𝓡 code.env #gathered g-def.routine code.calls-request-list::gathered
-    (g-thm.met 𝓤 𝓛 𝓜 𝓡))
-    (cited 𝓤 𝓛.H (Terms 𝓛 w.ended (w.clauses 𝓛 𝓜.mem 𝓡.run)) 𝓜 𝓡 code.env #write-array w-def.routine code.calls-ccfb-writer::write-array
-    (w-thm.met 𝓤 𝓛 𝓜 𝓡)) are))
