@@ -1,5 +1,4 @@
-// The C call that writes reports on streams of a store that the caller lends. All that is lent has one lifetime: the
-// proof of `ccfb_write` carries one token.
+// The C call that writes reports on streams of a store that the caller lends.
 #![tactic(auto)]
 
 ghost use Rattle.std.specs.Prelude.{◌≡◌, length, take};

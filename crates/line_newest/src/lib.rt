@@ -1,4 +1,6 @@
 // Asks for the newest numbers of each stream, for the report of ccfbline.
+#![tactic(auto)]
+
 ghost use Rattle.std.specs.Prelude.{◌≡◌, ◌≤◌, length};
 ghost use Rattle.octets.specs.Output.{output_after};
 ghost use Rattle.line_hex.specs.Hex.{put_text};

@@ -249,17 +249,17 @@ module _ (s : List ℕ) where
 
   -- ---- a packet is accepted exactly if its header is sound and sound blocks fill the room up to RTS
 
-  walks_end : rts_at s % 4 ≡ 0 → {P : Type 0} (at : ℕ) → at % 4 ≡ 0 → Walks s at (rts_at s) → ((bs : List ReportBlock) → walk_from s at ≡ walked bs → P) → P
-  walks_end q at a here then = then [] (walk_end s at _ (step_end s at (omega arith)) refl)
-  walks_end q at a (past b w) then =
+  walks_end : rts_at s % 4 ≡ 0 → {P : Type 0} (at : ℕ) → Walks s at (rts_at s) → at % 4 ≡ 0 → ((bs : List ReportBlock) → walk_from s at ≡ walked bs → P) → P
+  walks_end q at here a then = then [] (walk_end s at _ (step_end s at (omega arith)) refl)
+  walks_end q at (past b w) a then =
       let n = num_reports_of s at in
-      walks_end q (at + block_octets n) (next_words at n a) w
+      walks_end q (at + block_octets n) w (next_words at n a)
       (λ bs e. then (block_here_of s at n ∷ bs) (walk_block s at _ (sound_step at q a b) _ _ refl ∙ rw e))
 
   pub when_accepted : Sound s → Walks s 8 (rts_at s) → (e : Refusal) → decode_packet s ≡ refused e → ⊥
   unfolding decode_packet
   when_accepted h w e r =
-      walks_end (rts_words (be16 s 2) (length s) h.3) 8 refl w
+      walks_end (rts_words (be16 s 2) (length s) h.3) 8 w refl
       (λ bs f. let z : decoded (walk_of s) s ≡ packet (packet_in s bs) = rw (sound_walk h ∙ f) in
       let y : packet (packet_in s bs) ≡ refused e = sym z ∙ r in never (cc))
 

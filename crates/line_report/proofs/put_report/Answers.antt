@@ -27,8 +27,7 @@ slice_bounds-put_line-end c =
 pub put_line-requires : goal.put_line-requires
 put_line-requires c =
     let args = c.args in
-    let pre = c.requires in
-    record { room = line_room_lem _ _ args.out.now ((here (goal.at.put_line-requires c).After-write-answer).room _ _ c.in-Written.is) pre.1.1 }
+    record { room = line_room_lem _ _ args.out.now ((here (goal.at.put_line-requires c).After-write-answer).room _ _ c.in-Written.is) c.requires.room }
 
 pub returns-then-packets-eq0 : goal.returns-then-packets-eq0
 returns-then-packets-eq0 c =
