@@ -18,7 +18,7 @@ use Rattle.places.specs.Place.{find_of}
 use Rattle.place_window.specs.Window.{cell_at}
 use Rattle.cells.specs.Cell.{read_cell}
 use Rattle.cell_metrics.specs.Metrics.{cell_metric}
-use Rattle.packet.specs.Sizes.{blocks_octets}
+use Rattle.packet.specs.Sizes.{block_octets, blocks_octets}
 use Rattle.packet.proofs.Sizes.{length_packet}
 use Rattle.walk.specs.Walk.{Walked}
 use Rattle.walk.specs.declared.ReportBlock.{ReportBlock}
@@ -94,7 +94,7 @@ all_accepted (p ∷ ps) f = ap₂ (λ (d : Decoded) (ds : List Decoded). d ∷ d
 length_laid : (at : ℕ) (bs : List packet.Block) → length (laid at bs) ≡ length bs
 unfolding laid
 length_laid at [] = refl
-length_laid at (b ∷ bs) = ap suc (length_laid _ bs)
+length_laid at (b ∷ bs) = ap suc (length_laid (at + block_octets (length b.metrics)) bs)
 
 pub packet_read : (rs : List Request) (p : packet.Packet) → packet.Fit p → PacketRead p.sender p.rts rs (packet.encode_packet p)
 packet_read rs p f =

@@ -33,6 +33,7 @@ use Rattle.requests.specs.declared.Verdict.TheVariants as verdict
 
 named_is : (qs : List Request) (ssrc : ℕ) → Named ssrc qs → named qs ssrc ≡ true
 unfolding named
+named_is [] ssrc n = elim n [ ]
 named_is (q ∷ qs) ssrc (here e) = rw (eq-eqb q.ssrc ssrc e)
 named_is (q ∷ qs) ssrc (there n) = by (eqb q.ssrc ssrc) (named_is qs ssrc n)
   where
@@ -138,6 +139,7 @@ module _ (places : List ℕ) where
 
   pub fault_checked : (earlier rs : List Request) (e : Refusal) → FirstFault places earlier rs e → checked places earlier rs ≡ verdict.Fault e
   unfolding checked
+  fault_checked earlier [] e f = elim f [ ]
   fault_checked earlier (r ∷ rs) e (FirstFault.here f) = rw (fault_check places earlier r e f)
   fault_checked earlier (r ∷ rs) e (FirstFault.later p s f) = rw (sound_check places earlier r p s) (fault_checked (earlier ++ r ∷ []) rs e f)
 
@@ -154,6 +156,7 @@ module _ (places : List ℕ) where
   -- ---- what holds of sound requests
 
   named_first : (qs : List Request) (r : Request) (y : ℕ) → Named y qs → Named y (qs ++ r ∷ [])
+  named_first [] r y n = elim n [ ]
   named_first (q ∷ qs) r y (here e) = here e
   named_first (q ∷ qs) r y (there n) = there (named_first qs r y n)
 

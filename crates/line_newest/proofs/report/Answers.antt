@@ -9,7 +9,7 @@ use Rattle.places.proofs.Shape.{is_shaped}
 use Rattle.line_report.proofs.OnePacket.{put_refused}
 use Rattle.line_newest.specs.Newest.{newest}
 use Rattle.line_newest.proofs.Newest.{Gathering, turn_free, turn_held, gather_all, newest_four_lem, misshapen_text}
-use Rattle.line_newest.proofs.report.Goals.{After-loop-i}
+use Rattle.line_newest.proofs.report.Goals.{After-loop-i, in-Held, in-Free}
 use Rattle.line_newest.proofs.report.Goals as goal
 
 -- after the loop the requests are those for all places
@@ -53,10 +53,10 @@ loop-i-preserved c =
     let args = c.args in
     let places = args.places.now in
     let read = c.read_place-here.ensures.value in
-    ⊎_elim
-    (λ w. turn_held places c.loop-i.requests c.loop-i.n c.loop-i.i c.loop-i.invariant (omega arith) _ read _ _ _ _ _ w.1.given.1 w.3.ensures w.4 w.5)
-    (λ w. turn_free places c.loop-i.requests c.loop-i.n c.loop-i.i c.loop-i.invariant (omega arith) _ read _ _ w.1.given.1 w.2 w.3)
-    c.match-here.branch
+    elim c.match-here.branch [
+      | in-Held w ↦ turn_held places c.loop-i.requests c.loop-i.n c.loop-i.i c.loop-i.invariant (omega arith) _ read _ _ _ _ _ w.in-Held.is w.distance.ensures.value w.requests-is w.n-is
+      | in-Free w ↦ turn_free places c.loop-i.requests c.loop-i.n c.loop-i.i c.loop-i.invariant (omega arith) _ read _ _ w.in-Free.is w.requests-is w.n-is
+    ]
 
 pub put_report-requires : goal.put_report-requires
 put_report-requires c =
@@ -69,6 +69,6 @@ put_report-requires c =
 pub returns : goal.returns
 returns c =
     record {
-      after = rw (← asked (goal.at.returns c).After-loop-i) c.put_report.ensures;
-      bound = rw (← asked (goal.at.returns c).After-loop-i) c.put_report.ensures;
+      after = rw (← asked (goal.at.returns c).After-loop-i) c.put_report.ensures.after;
+      bound = c.put_report.ensures.bound;
     }
