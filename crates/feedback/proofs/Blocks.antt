@@ -23,6 +23,7 @@ use Rattle.block_reader.specs.declared.BlockAnswer.TheVariants as answer
 
 -- number j of a range
 number_at : (begin count j : ℕ) → begin < 65536 → j < count → get_or (numbers_from begin count) j 0 ≡ (begin + j) % 65536
+number_at begin zero j b l = absurd (omega arith)
 number_at begin (suc k) zero b l = omega arith
 number_at begin (suc k) (suc j) b l =
     number_at (following begin) k j (omega arith) (omega arith)

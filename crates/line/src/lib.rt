@@ -1,5 +1,7 @@
 // What ccfbline prints once all of an arrival file was taken: the report on the newest numbers of each stream and the
 // gap, or a refusal.
+#![tactic(auto)]
+
 ghost use Rattle.std.specs.Prelude.{◌≡◌, ◌≤◌, length};
 ghost use Rattle.octets.specs.Output.{output_after};
 ghost use Rattle.line_hex.specs.Hex.{put_text};

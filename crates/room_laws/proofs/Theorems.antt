@@ -8,7 +8,7 @@ use Rattle.refusal.specs.Numbers.{number_of}
 use Rattle.cutting.specs.declared.Request.{Request}
 use Rattle.sound_writer.specs.declared.Answer.{Answer}
 use Rattle.writer.specs.Written.{written}
-use Rattle.writer_laws.specs.Refused.{FirstFault, later, WritingGiven, in_request, too_short_of}
+use Rattle.writer_laws.specs.Refused.{FirstFault, here, later, WritingGiven, in_request, too_short_of}
 use Rattle.writer_laws.proofs.Refusals.{length_octets, refusals}
 use Rattle.ccfb_writer.specs.Writing.{write_called_by, write_called}
 use Rattle.call_laws.proofs.Numbers.{own_number}
@@ -19,6 +19,7 @@ use Rattle.sound_writer.specs.declared.Answer.TheVariants.{Written, Refused}
 
 -- what is wrong with a request is not the output
 no_fault : (places : List ℕ) (earlier rs : List Request) → FirstFault places earlier rs OutputTooShort → ⊥
+no_fault places _ _ (here f) = elim f [ ]
 no_fault places earlier rs (later p s f) = no_fault places _ _ f
 
 -- ccfb_write answers 10 only where the writer's output is too short
