@@ -3,7 +3,6 @@ use mathlib.Core.List.{◌++◌}
 use native.Mathlib.Omega.{arith}
 use Rattle.octets.specs.Octets.{octets16, octets32}
 use Rattle.octets.proofs.Sets.{sets_twice}
-use borrow.Author.Rules.{rules}
 use Rattle.block_put.proofs.put_block_header.Goals as goal
 
 pub returns : goal.returns

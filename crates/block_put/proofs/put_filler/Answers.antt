@@ -4,7 +4,6 @@ use mathlib.Core.Bool.{true}
 use lib.Dec.{eqb}
 use borrow.Author.Tests.{eq-eqb, ne_eqb}
 use Rattle.packet.specs.Packet.{filler}
-use borrow.Author.Rules.{rules}
 use Rattle.block_put.proofs.put_filler.Goals as goal
 
 pub returns-then-num_reports-eq0 : goal.returns-then-num_reports-eq0

@@ -1,8 +1,6 @@
-use mathlib.Core.Path.{◌≡◌, refl, ◌∙◌}
+use mathlib.Core.Path.{refl, ◌∙◌}
 use native.Mathlib.Omega.{arith}
-use Rattle.block_reader.specs.Steps.{after_blocks}
 use Rattle.block_reader.proofs.Answers.{after_none, after_block, after_end, after_refused}
-use borrow.Author.Rules.{rules}
 use Rattle.block_reader.proofs.after_blocks.Goals as goal
 
 pub loop-left-init : goal.loop-left-init

@@ -1,10 +1,7 @@
 -- The invariant: what is left to pass leads from here to
 -- where k blocks lead from the start.
-use mathlib.Core.Path.{◌≡◌, refl, ◌∙◌}
-use native.Mathlib.Omega.{arith}
+use mathlib.Core.Path.{◌≡◌}
 use Rattle.block_reader.specs.Steps.{after_blocks}
-use Rattle.block_reader.proofs.Answers.{after_none, after_block, after_end, after_refused}
-use borrow.Author.Rules.{rules}
 use Rattle.block_reader.proofs.after_blocks.Given as goal
 
 abbrev pub invariant-loop-left : goal.invariant-loop-left

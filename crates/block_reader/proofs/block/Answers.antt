@@ -1,6 +1,5 @@
 use mathlib.Core.Path.{refl}
 use Rattle.reader.proofs.Answers.{start_at, start_refused}
-use borrow.Author.Rules.{rules}
 use Rattle.block_reader.proofs.block.Goals as goal
 
 pub returns-in-At : goal.returns-in-At

@@ -1,5 +1,4 @@
 use Rattle.block_reader.proofs.Answers.{block_found, block_stopped, block_none, block_refused}
-use borrow.Author.Rules.{rules}
 use Rattle.block_reader.proofs.block_at.Goals as goal
 
 pub returns-in-Blocks : goal.returns-in-Blocks

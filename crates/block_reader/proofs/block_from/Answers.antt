@@ -1,6 +1,5 @@
 use mathlib.Core.Path.{◌∙◌}
 use Rattle.block_reader.proofs.Answers.{passed_to, passed_refused}
-use borrow.Author.Rules.{rules}
 use Rattle.block_reader.proofs.block_from.Goals as goal
 
 pub returns-in-At : goal.returns-in-At

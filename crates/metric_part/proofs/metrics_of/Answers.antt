@@ -1,6 +1,5 @@
 use native.Mathlib.Omega.{arith}
 use Rattle.metric_part.proofs.Parts.{part_held, part_not_held}
-use borrow.Author.Rules.{rules}
 use Rattle.metric_part.proofs.metrics_of.Goals as goal
 
 pub returns-then-packet-from : goal.returns-then-packet-from

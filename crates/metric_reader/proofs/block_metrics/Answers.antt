@@ -1,4 +1,3 @@
-use borrow.Author.Rules.{rules}
 use Rattle.metric_reader.proofs.block_metrics.Goals as goal
 
 pub returns-in-Found : goal.returns-in-Found

@@ -1,6 +1,5 @@
 use mathlib.Core.Path.{sym, ◌∙◌}
 use Rattle.metric_reader.proofs.Within.{located_within}
-use borrow.Author.Rules.{rules}
 use Rattle.metric_reader.proofs.metric.Goals as goal
 
 pub metric_in-requires : goal.metric_in-requires

@@ -1,5 +1,4 @@
 use native.Mathlib.Omega.{arith}
-use borrow.Author.Rules.{rules}
 use Rattle.packet_header.proofs.Starts.{too_short, bad_version_lem, bad_type_lem, bad_format, bad_length_lem, padded, sound}
 use Rattle.packet_header.proofs.read_header.Goals as goal
 

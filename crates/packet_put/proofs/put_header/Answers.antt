@@ -4,7 +4,6 @@ use mathlib.Core.Path.{refl}
 use mathlib.Core.List.{◌++◌}
 use Rattle.octets.specs.Octets.{octets16, octets32}
 use Rattle.octets.proofs.Sets.{sets_twice}
-use borrow.Author.Rules.{rules}
 use Rattle.packet_put.proofs.put_header.Goals as goal
 
 pub returns : goal.returns

@@ -2,7 +2,6 @@ use mathlib.Core.Path.{◌≡◌, sym, ap, ◌∙◌}
 use Rattle.walk.specs.Walk.{walk_from}
 use Rattle.reader.specs.Steps.{counted}
 use Rattle.reader.proofs.Answers.{start_at, start_refused}
-use borrow.Author.Rules.{rules}
 use Rattle.reader.proofs.count_blocks.Goals as goal
 
 pub returns-in-At : goal.returns-in-At

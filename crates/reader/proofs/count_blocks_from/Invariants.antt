@@ -1,14 +1,10 @@
 -- The invariant: the blocks passed and the walk from here count as
 -- the whole walk.
 use Prim.Native.Nat.{◌-◌, ◌*◌, ◌≤◌}
-use mathlib.Core.Path.{◌≡◌, refl, sym, ◌∙◌}
-use native.Mathlib.Omega.{arith}
+use mathlib.Core.Path.{◌≡◌}
 use lib.ListN.{length}
 use Rattle.walk.specs.Walk.{walk_from}
-use Rattle.walk.proofs.Steps.{inside, next_more}
 use Rattle.reader.specs.Steps.{counted}
-use Rattle.reader.proofs.Answers.{count_block, count_end, count_refused}
-use borrow.Author.Rules.{rules}
 use Rattle.reader.proofs.count_blocks_from.Given as goal
 
 abbrev pub invariant-loop-next : goal.invariant-loop-next

@@ -2,7 +2,6 @@ use mathlib.Core.Path.{sym, ap}
 use native.Mathlib.Omega.{arith}
 use Rattle.reader.specs.Reading.{read_of}
 use Rattle.reader.proofs.Answers.{read_header, read_stopped, read_blocks}
-use borrow.Author.Rules.{rules}
 use Rattle.reader.proofs.read.Goals as goal
 
 pub get32-requires : goal.get32-requires

@@ -1,4 +1,4 @@
-use Rattle.std.proofs.Common.{refl, arith, rules, le-leb}
+use Rattle.std.proofs.Common.{refl, arith, le-leb}
 use borrow.Author.Tests.{lt-leb}
 use Rattle.reports.proofs.metric_in.Goals as goal
 

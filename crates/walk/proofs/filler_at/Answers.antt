@@ -1,5 +1,4 @@
 use native.Mathlib.Omega.{arith}
-use borrow.Author.Rules.{rules}
 use borrow.Author.Tests.{eq-eqb, ne_eqb}
 use Rattle.packet.proofs.Sizes.{odd_octets}
 use Rattle.walk.specs.Walk.{filler_at}

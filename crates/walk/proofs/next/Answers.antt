@@ -1,5 +1,4 @@
 use native.Mathlib.Omega.{arith}
-use borrow.Author.Rules.{rules}
 use Rattle.walk.proofs.Steps.{step_end, step_no_header, step_many, step_overrun, step_filler, step_found}
 use Rattle.walk.proofs.next.Goals as goal
 
