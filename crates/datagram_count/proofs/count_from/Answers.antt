@@ -36,8 +36,8 @@ loop-p-preserved c =
     let is = c.is_ccfb.ensures.value in
     let more = found_more _ _ _ (sym c.next_packet-here.ensures.value ∙ found) in
     elim c.if-is_ccfb.branch [
-      then-is_ccfb w ↦ (omega arith, count_one _ _ c.loop-p.n _ c.next_packet-here.ensures.value _ found _ is _ w.if-is_ccfb.true w.n-is ∙ c.loop-p.invariant.1)
-    | else-is_ccfb w ↦ (omega arith, count_other _ _ c.loop-p.n _ c.next_packet-here.ensures.value _ found _ is _ w.if-is_ccfb.false w.n-is ∙ c.loop-p.invariant.1)
+      | then-is_ccfb w ↦ (omega arith, count_one _ _ c.loop-p.n _ c.next_packet-here.ensures.value _ found _ is _ w.if-is_ccfb.true w.n-is ∙ c.loop-p.invariant.1)
+      | else-is_ccfb w ↦ (omega arith, count_other _ _ c.loop-p.n _ c.next_packet-here.ensures.value _ found _ is _ w.if-is_ccfb.false w.n-is ∙ c.loop-p.invariant.1)
     ]
 
 pub returns-in-End : goal.returns-in-End

@@ -36,8 +36,8 @@ loop-p-preserved c =
     let found = c.in-Packet.is in
     let is = c.is_ccfb.ensures.value in
     elim c.if-is_ccfb.branch [
-      then-is_ccfb+else-left-eq0 w ↦ search_one _ _ c.loop-p.left _ c.next_packet-here.ensures.value _ found _ is _ w.if-is_ccfb.true w.if-left-eq0.false w.left-is ∙ c.loop-p.invariant
-    | else-is_ccfb w ↦ search_other _ _ c.loop-p.left _ c.next_packet-here.ensures.value _ found _ is _ w.if-is_ccfb.false w.left-is ∙ c.loop-p.invariant
+      | then-is_ccfb+else-left-eq0 w ↦ search_one _ _ c.loop-p.left _ c.next_packet-here.ensures.value _ found _ is _ w.if-is_ccfb.true w.if-left-eq0.false w.left-is ∙ c.loop-p.invariant
+      | else-is_ccfb w ↦ search_other _ _ c.loop-p.left _ c.next_packet-here.ensures.value _ found _ is _ w.if-is_ccfb.false w.left-is ∙ c.loop-p.invariant
     ]
 
 pub returns-in-End : goal.returns-in-End

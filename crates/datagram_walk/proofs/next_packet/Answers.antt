@@ -27,7 +27,7 @@ pub returns : goal.returns
 returns c =
     record {
       value = elim c.if-size-left.branch [
-            then-size-left+else-first-ne0 w ↦ step_unpadded _ _ (omega arith) c.if-first-ne-VERSION.false _ c.get16.ensures.value (omega arith) w.if-first-ne0.false
-          | else-size-left w ↦ step_last _ _ (omega arith) c.if-first-ne-VERSION.false _ c.get16.ensures.value (omega arith)
-          ];
+        | then-size-left+else-first-ne0 w ↦ step_unpadded _ _ (omega arith) c.if-first-ne-VERSION.false _ c.get16.ensures.value (omega arith) w.if-first-ne0.false
+        | else-size-left w ↦ step_last _ _ (omega arith) c.if-first-ne-VERSION.false _ c.get16.ensures.value (omega arith)
+      ];
     }
