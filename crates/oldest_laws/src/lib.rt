@@ -1,1 +1,2 @@
 // Theorems about `oldest::oldest`; no code.
+#![tactic(auto)]
