@@ -1,6 +1,6 @@
 -- What is decided of an arrival, in each of its cases, and that it can be carried out. Assumes nothing.
 use Prim.Native.Nat.{ℕ, ◌%◌, ◌<◌, ◌≤◌}
-use mathlib.Core.Path.{◌≡◌, refl, subst}
+use mathlib.Core.Path.{◌≡◌, refl, sym, subst}
 use mathlib.Core.Bool.{Bool, true, false, cond}
 use mathlib.Core.List.{List}
 use borrow.Author.Tests.{lt-ltb, le-ltb, ltb-false}
@@ -118,8 +118,24 @@ module _ (places cells : List ℕ) (ssrc number mark : ℕ) where
   decided_refused e s = rw (decided_past_lem, s)
 
   module _ (s : screened places cells mark ≡ screening.Sound) where
-    pub decided_known : (p : ℕ) → find_of places ssrc ≡ At p → decided_later places cells p number ≡ decided places cells ssrc number mark
-    decided_known p f = rw (decided_past_lem, s, f)
+    pub past_known : (p : ℕ) → find_of places ssrc ≡ At p → decided_later places cells p number ≡ decided places cells ssrc number mark
+    past_known p f = rw (decided_past_lem, s, f)
 
-    pub decided_new_lem : (o : Found) → find_of places ssrc ≡ Nothing → free_of places ≡ o → decided_new o ≡ decided places cells ssrc number mark
-    decided_new_lem o f e = rw (decided_past_lem, s, f, e)
+    pub past_new : (o : Found) → find_of places ssrc ≡ Nothing → free_of places ≡ o → decided_new o ≡ decided places cells ssrc number mark
+    past_new o f e = rw (decided_past_lem, s, f, e)
+
+  -- the same by the shape of the store and by the mark
+
+  pub decided_misshapen : shaped places cells ≡ false → decision.Refused BadStore ≡ decided places cells ssrc number mark
+  decided_misshapen s = decided_refused BadStore (sym (screened_misshapen places cells mark s))
+
+  module _ (s : shaped places cells ≡ true) where
+    pub decided_bad_mark : congested < mark → decision.Refused BadMark ≡ decided places cells ssrc number mark
+    decided_bad_mark m = decided_refused BadMark (sym (screened_bad_mark places cells mark s m))
+
+    module _ (low : mark ≤ congested) where
+      pub decided_known : (p : ℕ) → find_of places ssrc ≡ At p → decided_later places cells p number ≡ decided places cells ssrc number mark
+      decided_known p f = past_known (sym (screened_sound places cells mark s low)) p f
+
+      pub decided_new_lem : (o : Found) → find_of places ssrc ≡ Nothing → free_of places ≡ o → decided_new o ≡ decided places cells ssrc number mark
+      decided_new_lem o f e = past_new (sym (screened_sound places cells mark s low)) o f e

@@ -9,7 +9,7 @@ use Rattle.sent_register.specs.declared.Registration.{Registration}
 use Rattle.sent_feedback.specs.TakeIn.{taken_in}
 use Rattle.sent_feedback.specs.declared.TakingIn.{TakingIn}
 
--- register: SSRC, sequence number. takeIn: the octets of a packet
+-- register: SSRC, sequence number. take_in: the octets of a packet
 pub data Call : Type 0 where
   register : ℕ → ℕ → Call
   take_in : List ℕ → Call

@@ -5,7 +5,7 @@ use Rattle.places.specs.Shape.{Shaped}
 use Rattle.places.proofs.Shape.{ready_found, ready_free}
 use Rattle.admission.specs.Decision.{screened}
 use Rattle.admission.specs.declared.Screening.TheVariants.{Sound}
-use Rattle.admission.proofs.Decided.{sound_is, decided_refused, decided_known, decided_new_lem, later_fits}
+use Rattle.admission.proofs.Decided.{sound_is, decided_refused, past_known, past_new, later_fits}
 use Rattle.admission.proofs.decide.Goals.{In_default}
 use Rattle.admission.proofs.decide.Goals as goal
 
@@ -45,7 +45,7 @@ returns-in-At c =
     let ready = ready_found a.places.now a.cells.now _ _ (sound-store (goal.at.returns-in-At c).In_default).0 found in
     record {
       value = c.decide_later.ensures.value
-          ∙ decided_known a.places.now a.cells.now a.ssrc a.number a.mark (sound (goal.at.returns-in-At c).In_default) _ found;
+          ∙ past_known a.places.now a.cells.now a.ssrc a.number a.mark (sound (goal.at.returns-in-At c).In_default) _ found;
       fits = rw c.decide_later.ensures.value (later_fits a.places.now a.cells.now _ a.number a.mark ready (sound-store (goal.at.returns-in-At c).In_default).1);
     }
 
@@ -54,7 +54,7 @@ returns-in-At-open c =
     let a = c.args in
     let free = sym c.first_free-open.ensures.value ∙ c.in-At-open.is in
     record {
-      value = decided_new_lem a.places.now a.cells.now a.ssrc a.number a.mark (sound (goal.at.returns-in-At-open c).In_default) _
+      value = past_new a.places.now a.cells.now a.ssrc a.number a.mark (sound (goal.at.returns-in-At-open c).In_default) _
           (sym c.place_of-known.ensures.value ∙ c.in_default-known.is) free;
       fits = ready_free a.places.now a.cells.now _ (sound-store (goal.at.returns-in-At-open c).In_default).0 free;
     }
@@ -63,7 +63,7 @@ pub returns : goal.returns
 returns c =
     let a = c.args in
     record {
-      value = decided_new_lem a.places.now a.cells.now a.ssrc a.number a.mark (sound (goal.at.returns c).In_default) _
+      value = past_new a.places.now a.cells.now a.ssrc a.number a.mark (sound (goal.at.returns c).In_default) _
           (sym c.place_of-known.ensures.value ∙ c.in_default-known.is) (sym c.first_free-open.ensures.value ∙ c.in_default-open.is);
       fits = tt;
     }

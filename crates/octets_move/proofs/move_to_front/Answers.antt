@@ -8,20 +8,11 @@ use Rattle.octets_move.proofs.move_to_front.Goals as goal
 pub loop-i-init : goal.loop-i-init
 loop-i-init c = (omega arith, refl, rw add-zero)
 
--- LEFT overflow-sub-loop
--- omega arith
-
--- LEFT overflow-add-s
--- omega arith
-
 pub bounds-s-from : goal.bounds-s-from
 bounds-s-from c = omega arith
 
 pub bounds-s-i : goal.bounds-s-i
 bounds-s-i c = omega arith
-
--- LEFT overflow-add-i
--- omega arith
 
 pub loop-i-smaller : goal.loop-i-smaller
 loop-i-smaller c = simp length-set (omega arith)
