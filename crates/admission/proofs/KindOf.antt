@@ -13,7 +13,7 @@ use Rattle.places.specs.Place.{highest_at}
 use Rattle.place_window.specs.Window.{cell_at}
 use Rattle.cells.specs.Cell.{read_cell}
 use Rattle.admission.specs.Kind.{kind_in, later_kind, kind_at}
-use Rattle.lists.specs.declared.Found.TheVariants.{At, Nothing}
+use Rattle.std.specs.Prelude.{Some, None}
 use Rattle.window.specs.declared.Move.TheVariants as move
 use Rattle.admission.specs.declared.ArrivalKind.TheVariants as kind
 
@@ -37,21 +37,21 @@ not_ahead_lem highest number b e = go (is_ahead (distance_of number highest)) re
     go true h = let a : move.Ahead (distance_of number highest) ≡ move.Within b = rw h at e in never (cc)
 
 -- where no place holds the stream
-pub kind_new : (places cells : List ℕ) (number : ℕ) → kind_at Nothing places cells number ≡ kind.First
+pub kind_new : (places cells : List ℕ) (number : ℕ) → kind_at None places cells number ≡ kind.First
 unfolding kind_at
 kind_new places cells number = refl
 
 -- where place p holds it
 module _ (places cells : List ℕ) (p number : ℕ) where
-  pub kind_later : kind_at (At p) places cells number ≡ later_kind (distance_of number (highest_at places p)) (read_cell (cell_at cells p number))
+  pub kind_later : kind_at (Some p) places cells number ≡ later_kind (distance_of number (highest_at places p)) (read_cell (cell_at cells p number))
   unfolding kind_at
   kind_later = refl
 
-  pub kind_ahead : (f : ℕ) → move_of (highest_at places p) number ≡ move.Ahead f → kind_at (At p) places cells number ≡ kind.Ahead (f - 1)
+  pub kind_ahead : (f : ℕ) → move_of (highest_at places p) number ≡ move.Ahead f → kind_at (Some p) places cells number ≡ kind.Ahead (f - 1)
   kind_ahead f e =
       let known = ahead_is (highest_at places p) number f e in
       rw (kind_later, ← known.0, is_ahead_lem f known.1 known.2)
 
   pub kind_within : (b : ℕ) → move_of (highest_at places p) number ≡ move.Within b
-      → kind_at (At p) places cells number ≡ kind_in (read_cell (cell_at cells p number))
+      → kind_at (Some p) places cells number ≡ kind_in (read_cell (cell_at cells p number))
   kind_within b e = rw (kind_later, not_ahead_lem (highest_at places p) number b e)

@@ -8,6 +8,8 @@ use native.Mathlib.Omega.{arith}
 use borrow.Author.Tests.{lt-ltb, le-ltb, eq-eqb, ne_eqb}
 use lib.ListN.{length, get_or, take, drop, length-drop}
 use lib.Seq.{get_or-take, drop-drop}
+use Rattle.std.specs.Prelude.{Result, Ok, Err}
+use Rattle.refusal.specs.declared.Refusal.{Refusal}
 use Rattle.refusal.specs.declared.Refusal.TheVariants.{RecordCutShort, BadRecord}
 use Rattle.lists.proofs.Cases.{never, split_le, split_eq}
 use Rattle.octets.specs.Octets.{be16, be32}
@@ -16,10 +18,9 @@ use Rattle.record_fault.specs.Fault.{is_faulty}
 use Rattle.arrival_record.specs.Record.{record_of_is, record_octets}
 use Rattle.arrival_record.specs.declared.Record.{Record}
 use Rattle.arrival_record.proofs.Cases.{bad_record_lem, sound_record}
-use Rattle.arrival_file.specs.File.{Result, sound, faulty, record_first, records_of, file_of, file_header_octets, file_version}
+use Rattle.arrival_file.specs.File.{record_first, records_of, file_of, file_header_octets, file_version}
 use Rattle.arrival_file.specs.Faults.{magic, FaultyRecord, SoundBefore, RecordsGive, Gives}
 use Rattle.arrival_file.proofs.Headers.{too_short, wrong_a, wrong_r, wrong_l, wrong_version_lem, sound_header}
-use Rattle.arrival_record.specs.declared.RecordRead.TheVariants as entry
 
 -- ---- a record
 
@@ -51,12 +52,12 @@ not_faulty t h = record_cases t (λ b. absurd (h b)) (λ g. g)
 module _ (s : List ℕ) where
   -- the first record has no fault
   sound_first : (at n : ℕ) → (FaultyRecord (drop at s) → ⊥) → at + record_octets ≤ length s
-      → records_of (suc n) (drop at s) ≡ record_first (entry.Record (record_of_is (drop at s))) (records_of n (drop (at + record_octets) s))
+      → records_of (suc n) (drop at s) ≡ record_first (Ok (record_of_is (drop at s))) (records_of n (drop (at + record_octets) s))
   unfolding records_of
   sound_first at n ok l =
       rw (← sound_record (drop at s) (omega (arith, length-drop at s)) (not_faulty (drop at s) ok), drop-drop record_octets at s)
 
-  faulty_first : (at n : ℕ) → FaultyRecord (drop at s) → at + record_octets ≤ length s → records_of (suc n) (drop at s) ≡ faulty BadRecord
+  faulty_first : (at n : ℕ) → FaultyRecord (drop at s) → at + record_octets ≤ length s → records_of (suc n) (drop at s) ≡ Err BadRecord
   unfolding records_of
   faulty_first at n bad l = rw (← bad_record_lem (drop at s) (omega (arith, length-drop at s)) (faulty_true (drop at s) bad))
 
@@ -75,8 +76,8 @@ module _ (s : List ℕ) where
   sound_here at k sb bad = sb 0 (omega arith) (same_place at (at + record_octets * 0) (omega arith) bad)
 
   -- what is given starting at the second record is given starting at the first
-  one_before : (at : ℕ) (f : Result (List Record)) → (FaultyRecord (drop at s) → ⊥) → RecordsGive s (at + record_octets) f
-      → RecordsGive s at (record_first (entry.Record (record_of_is (drop at s))) f)
+  one_before : (at : ℕ) (f : Result (List Record) Refusal) → (FaultyRecord (drop at s) → ⊥) → RecordsGive s (at + record_octets) f
+      → RecordsGive s at (record_first (Ok (record_of_is (drop at s))) f)
   one_before at f ok (RecordsGive.bad_record k sb l bad) =
       RecordsGive.bad_record (suc k) (sound_more at k ok sb) (omega arith) (same_place (at + record_octets + record_octets * k) (at + record_octets * suc k) (omega arith) bad)
   one_before at f ok (RecordsGive.cut_short_of k sb l m) = RecordsGive.cut_short_of (suc k) (sound_more at k ok sb) (omega arith) (omega arith)
@@ -111,28 +112,28 @@ module _ (s : List ℕ) where
   -- ---- and nothing else is given
 
   bad_is : (k n at : ℕ) → length (drop at s) / record_octets ≡ n → SoundBefore s at k → at + record_octets * (k + 1) ≤ length s
-      → FaultyRecord (drop (at + record_octets * k) s) → records_of n (drop at s) ≡ faulty BadRecord
+      → FaultyRecord (drop (at + record_octets * k) s) → records_of n (drop at s) ≡ Err BadRecord
   bad_is k zero at e sb l bad = absurd (omega (arith, length-drop at s))
   bad_is zero (suc n) at e sb l bad = faulty_first at n (same_place (at + record_octets * 0) at (omega arith) bad) (omega arith)
   bad_is (suc k) (suc n) at e sb l bad =
       sound_first at n (sound_here at k sb) (omega arith)
-      ∙ ap (record_first (entry.Record (record_of_is (drop at s))))
+      ∙ ap (record_first (Ok (record_of_is (drop at s))))
       (bad_is k n (at + record_octets) (omega (arith, length-drop at s, length-drop (at + record_octets) s)) (sound_less at k sb)
       (omega arith) (same_place (at + record_octets * suc k) (at + record_octets + record_octets * k) (omega arith) bad))
 
   cut_is : (k n at : ℕ) → length (drop at s) / record_octets ≡ n → SoundBefore s at k → at + record_octets * k < length s
-      → length s < at + record_octets * (k + 1) → records_of n (drop at s) ≡ faulty RecordCutShort
+      → length s < at + record_octets * (k + 1) → records_of n (drop at s) ≡ Err RecordCutShort
   unfolding records_of
   cut_is zero zero at e sb l m = rw (ne_eqb (length (drop at s)) 0 (λ z. omega (arith, length-drop at s)))
   cut_is zero (suc n) at e sb l m = absurd (omega (arith, length-drop at s))
   cut_is (suc k) zero at e sb l m = absurd (omega (arith, length-drop at s))
   cut_is (suc k) (suc n) at e sb l m =
       sound_first at n (sound_here at k sb) (omega arith)
-      ∙ ap (record_first (entry.Record (record_of_is (drop at s))))
+      ∙ ap (record_first (Ok (record_of_is (drop at s))))
       (cut_is k n (at + record_octets) (omega (arith, length-drop at s, length-drop (at + record_octets) s)) (sound_less at k sb) (omega arith) (omega arith))
 
   whole_is : (rs : List Record) (n at : ℕ) → length (drop at s) / record_octets ≡ n → SoundBefore s at (length rs) → length s ≡ at + record_octets * length rs
-      → ((k : ℕ) (d : Record) → k < length rs → get_or rs k d ≡ record_of_is (drop (at + record_octets * k) s)) → records_of n (drop at s) ≡ sound rs
+      → ((k : ℕ) (d : Record) → k < length rs → get_or rs k d ≡ record_of_is (drop (at + record_octets * k) s)) → records_of n (drop at s) ≡ Ok rs
   unfolding records_of
   whole_is [] zero at e sb l each = rw (eq-eqb (length (drop at s)) 0 (omega (arith, length-drop at s)))
   whole_is [] (suc n) at e sb l each = absurd (omega (arith, length-drop at s))
@@ -140,10 +141,10 @@ module _ (s : List ℕ) where
   whole_is (r ∷ rs) (suc n) at e sb l each =
       let first : r ≡ record_of_is (drop at s) = each 0 r (omega arith) ∙ ap (λ i. record_of_is (drop i s)) (start 0) in
       sound_first at n (sound_here at (length rs) sb) (omega arith)
-      ∙ ap (record_first (entry.Record (record_of_is (drop at s))))
+      ∙ ap (record_first (Ok (record_of_is (drop at s))))
       (whole_is rs n (at + record_octets) (omega (arith, length-drop at s, length-drop (at + record_octets) s)) (sound_less at (length rs) sb) (omega arith)
       (λ k d h. each (suc k) d (omega arith) ∙ ap (λ i. record_of_is (drop i s)) (next k)))
-      ∙ ap (λ q. sound (q ∷ rs)) (sym first)
+      ∙ ap (λ q. Ok (q ∷ rs)) (sym first)
     where
       start : (k : ℕ) → at + record_octets * 0 ≡ at
       start k = omega arith
@@ -151,7 +152,7 @@ module _ (s : List ℕ) where
       next : (k : ℕ) → at + record_octets * suc k ≡ at + record_octets + record_octets * k
       next k = omega arith
 
-  gives_is : (at : ℕ) (f : Result (List Record)) → RecordsGive s at f → records_of (length (drop at s) / record_octets) (drop at s) ≡ f
+  gives_is : (at : ℕ) (f : Result (List Record) Refusal) → RecordsGive s at f → records_of (length (drop at s) / record_octets) (drop at s) ≡ f
   gives_is at f (RecordsGive.bad_record k sb l bad) = bad_is k (length (drop at s) / record_octets) at refl sb l bad
   gives_is at f (RecordsGive.cut_short_of k sb l m) = cut_is k (length (drop at s) / record_octets) at refl sb l m
   gives_is at f (RecordsGive.whole rs sb l each) = whole_is rs (length (drop at s) / record_octets) at refl sb l each
@@ -184,7 +185,7 @@ module _ (s : List ℕ) where
       (λ a. rw (← wrong_a s l a) (Gives.wrong_magic l (λ m. a (magic_octet s 0 (omega arith) m)))))
       (λ l. rw (← too_short s l) (Gives.too_short_of l))
 
-  file_is : (f : Result (List Record)) → Gives s f → file_of s ≡ f
+  file_is : (f : Result (List Record) Refusal) → Gives s f → file_of s ≡ f
   unfolding file_of
   file_is f (Gives.too_short_of l) = rw (← too_short s l)
   file_is f (Gives.wrong_magic l n) =
@@ -202,5 +203,5 @@ module _ (s : List ℕ) where
       (gives_is s file_header_octets f g)
 
   -- what a file gives is given exactly when the rules say
-  pub exactly : (f : Result (List Record)) → (file_of s ≡ f) ↔ Gives s f
+  pub exactly : (f : Result (List Record) Refusal) → (file_of s ≡ f) ↔ Gives s f
   exactly f = (λ e. subst (Gives s) e gives_file, file_is f)

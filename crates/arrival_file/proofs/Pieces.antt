@@ -8,20 +8,17 @@ use borrow.Author.Tests.{lt-ltb, le-ltb}
 use lib.ListN.{length, drop, length-append, length-drop}
 use lib.Dec.{eqb}
 use lib.Seq.{drop-append-le}
+use Rattle.std.specs.Prelude.{Result, Ok, Err}
 use Rattle.lists.proofs.Cases.{split_le}
 use Rattle.refusal.specs.declared.Refusal.{Refusal}
 use Rattle.arrival_record.specs.Record.{record_read_of, record_octets}
 use Rattle.arrival_record.specs.declared.Record.{Record}
-use Rattle.arrival_record.specs.declared.RecordRead.{RecordRead}
-use Rattle.arrival_file.specs.File.{header_of, Result, sound, faulty, record_first, records_of, behind, file_of, file_header_octets}
+use Rattle.arrival_file.specs.File.{header_of, record_first, records_of, behind, file_of, file_header_octets}
 use Rattle.arrival_file.specs.Pieces.{Feeding, starting, result_of, ended, on_entry, taken, taken_behind, taken_here, fed, all_taken}
-use Rattle.arrival_file.specs.declared.Check.{Check}
 use Rattle.arrival_file.specs.declared.Phase.{Phase}
 use Rattle.arrival_file.proofs.Fronts.{header_front, entry_front}
 use Rattle.arrival_file.proofs.Headers.{too_short}
 use Rattle.refusal.specs.declared.Refusal.TheVariants.{RecordCutShort}
-use Rattle.arrival_record.specs.declared.RecordRead.TheVariants as entry
-use Rattle.arrival_file.specs.declared.Check.TheVariants.{Sound, Refused}
 use Rattle.arrival_file.specs.declared.Phase.TheVariants.{Header, Records, Faulty}
 
 module _ {S : Type 0} (step : S → Record → S) where
@@ -36,18 +33,18 @@ module _ {S : Type 0} (step : S → Record → S) where
       rw (one_more s t (omega arith), entry_front s t (omega arith), drop-append-le record_octets s t (omega arith))
       (go (record_read_of s) (λ r. taken_more n (step x r) (drop record_octets s) t (omega (arith, length-drop record_octets s))))
     where
-      go : (y : RecordRead)
+      go : (y : Result Record Refusal)
           → ((r : Record) → taken step (length (drop record_octets s ++ t) / record_octets) (step x r) (drop record_octets s ++ t)
           ≡ fed step (taken step n (step x r) (drop record_octets s)) t)
           → on_entry y x (λ r. taken step (length (drop record_octets s ++ t) / record_octets) (step x r) (drop record_octets s ++ t))
           ≡ fed step (on_entry y x (λ r. taken step n (step x r) (drop record_octets s))) t
-      go (entry.Record r) h = h r
-      go (entry.Refused q) h = refl
+      go (Ok r) h = h r
+      go (Err q) h = refl
 
-  behind_more : (v : Check) (x : S) (s t : List ℕ) → taken_behind step v x (s ++ t) ≡ fed step (taken_behind step v x s) t
+  behind_more : (v : Result (Unit {0}) Refusal) (x : S) (s t : List ℕ) → taken_behind step v x (s ++ t) ≡ fed step (taken_behind step v x s) t
   unfolding taken_here
-  behind_more Sound x s t = taken_more (length s / record_octets) x s t refl
-  behind_more (Refused e) x s t = refl
+  behind_more (Ok tt) x s t = taken_more (length s / record_octets) x s t refl
+  behind_more (Err e) x s t = refl
 
   taken_here_more : (p : Phase) (x : S) (s t : List ℕ) → taken_here step p x (s ++ t) ≡ fed step (taken_here step p x s) t
   unfolding taken_here
@@ -61,7 +58,7 @@ module _ {S : Type 0} (step : S → Record → S) where
       )
       (behind_more (header_of s) x (drop file_header_octets s) t))
       (λ h. rw (lt-ltb (length s) file_header_octets h))
-  taken_here_more Records x s t = behind_more Sound x s t
+  taken_here_more Records x s t = behind_more (Ok tt) x s t
   taken_here_more (Faulty e) x s t = refl
 
   -- two pieces back to back are as good as one
@@ -83,11 +80,11 @@ module _ {S : Type 0} (step : S → Record → S) where
   unfolding taken_here
   all_pieces x ps = more_pieces (starting x) [] ps
 
-  one_taken : (x : S) (r : Record) (f : Result (List Record)) → all_taken step (step x r) f ≡ all_taken step x (record_first (entry.Record r) f)
-  one_taken x r (sound rs) = refl
-  one_taken x r (faulty e) = refl
+  one_taken : (x : S) (r : Record) (f : Result (List Record) Refusal) → all_taken step (step x r) f ≡ all_taken step x (record_first (Ok r) f)
+  one_taken x r (Ok rs) = refl
+  one_taken x r (Err e) = refl
 
-  none_taken : (b : Bool) (x : S) → result_of (cond b Sound (Refused RecordCutShort)) x ≡ all_taken step x (cond b (sound []) (faulty RecordCutShort))
+  none_taken : (b : Bool) (x : S) → result_of (cond b (Ok tt) (Err RecordCutShort)) x ≡ all_taken step x (cond b (Ok []) (Err RecordCutShort))
   none_taken true x = refl
   none_taken false x = refl
 
@@ -96,15 +93,15 @@ module _ {S : Type 0} (step : S → Record → S) where
   taken_all zero x s = none_taken (eqb (length s) 0) x
   taken_all (suc n) x s = go (record_read_of s) (λ r. taken_all n (step x r) (drop record_octets s))
     where
-      go : (y : RecordRead)
+      go : (y : Result Record Refusal)
           → ((r : Record) → ended (taken step n (step x r) (drop record_octets s)) ≡ all_taken step (step x r) (records_of n (drop record_octets s)))
           → ended (on_entry y x (λ r. taken step n (step x r) (drop record_octets s))) ≡ all_taken step x (record_first y (records_of n (drop record_octets s)))
-      go (entry.Record r) h = h r ∙ one_taken x r (records_of n (drop record_octets s))
-      go (entry.Refused q) h = refl
+      go (Ok r) h = h r ∙ one_taken x r (records_of n (drop record_octets s))
+      go (Err q) h = refl
 
-  behind_all : (v : Check) (x : S) (s : List ℕ) → ended (taken_behind step v x s) ≡ all_taken step x (behind v s)
-  behind_all Sound x s = taken_all (length s / record_octets) x s
-  behind_all (Refused e) x s = refl
+  behind_all : (v : Result (Unit {0}) Refusal) (x : S) (s : List ℕ) → ended (taken_behind step v x s) ≡ all_taken step x (behind v s)
+  behind_all (Ok tt) x s = taken_all (length s / record_octets) x s
+  behind_all (Err e) x s = refl
 
   whole_file : (x : S) (s : List ℕ) → ended (fed step (starting x) s) ≡ all_taken step x (file_of s)
   unfolding taken_here file_of
@@ -118,7 +115,7 @@ module _ {S : Type 0} (step : S → Record → S) where
   pieces x ps = ap ended (all_pieces x ps) ∙ whole_file x (flatten ps)
 
   -- a file with a fault stays so, whatever comes after it
-  pub stays_faulty : (f : Feeding S) (e : Refusal) (s : List ℕ) → f.phase ≡ Faulty e → ended (fed step f s) ≡ faulty e
+  pub stays_faulty : (f : Feeding S) (e : Refusal) (s : List ℕ) → f.phase ≡ Faulty e → ended (fed step f s) ≡ Err e
   unfolding taken_here
   stays_faulty f e s h = rw h
 
@@ -131,9 +128,9 @@ all_listed : (rs qs : List Record) → foldl listed rs qs ≡ rs ++ qs
 all_listed rs [] = sym (append-nil rs)
 all_listed rs (q ∷ qs) = all_listed (listed rs q) qs ∙ append_assoc rs (q ∷ []) qs
 
-keeps : (f : Result (List Record)) → all_taken listed [] f ≡ f
-keeps (sound rs) = ap sound (all_listed [] rs)
-keeps (faulty e) = refl
+keeps : (f : Result (List Record) Refusal) → all_taken listed [] f ≡ f
+keeps (Ok rs) = ap Ok (all_listed [] rs)
+keeps (Err e) = refl
 
 -- the pieces of a file give its records, or its first fault
 pub records_in_pieces : (ps : List (List ℕ)) → ended (foldl (fed listed) (starting []) ps) ≡ file_of (flatten ps)

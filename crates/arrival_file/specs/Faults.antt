@@ -1,11 +1,12 @@
 -- Rules: "Arrival file", "Refusals". When a file gives which refusal, 11 to 14, or its records: one
 -- case for each rule, and exactly one applies to any octets.
-use Rattle.std.specs.Prelude.{ℕ, ◌+◌, ◌*◌, ◌<◌, ◌≤◌, ◌≡◌, ◌≢◌, List, [], ◌∷◌, length, get_or, take, drop}
+use Rattle.std.specs.Prelude.{ℕ, ◌+◌, ◌*◌, ◌<◌, ◌≤◌, ◌≡◌, ◌≢◌, List, [], ◌∷◌, length, get_or, take, drop, Result, Ok, Err}
 use Rattle.octets.specs.Octets.{be16, be32}
 use Rattle.metric.specs.Metric.{congested}
 use Rattle.arrival_record.specs.Record.{record_octets, record_of_is}
 use Rattle.arrival_record.specs.declared.Record.{Record}
-use Rattle.arrival_file.specs.File.{file_header_octets, file_version, Result, sound, faulty}
+use Rattle.arrival_file.specs.File.{file_header_octets, file_version}
+use Rattle.refusal.specs.declared.Refusal.{Refusal}
 use Rattle.refusal.specs.declared.Refusal.TheVariants.{BadFileMark, BadFileVersion, RecordCutShort, BadRecord}
 
 -- `ARL`
@@ -29,20 +30,20 @@ module _ (s : List ℕ) (start : ℕ) where
   abbrev pub SoundBefore : ℕ → Type 0
   SoundBefore k = (j : ℕ) → j < k → FaultyRecord (drop (record_at j) s) → ⊥
 
-  pub data RecordsGive : Result (List Record) → Type 0 where
+  pub data RecordsGive : Result (List Record) Refusal → Type 0 where
     -- record k is whole, and the first with a fault
     bad_record : (k : ℕ) → SoundBefore k → record_at (k + 1) ≤ length s → FaultyRecord (drop (record_at k) s)
-        → RecordsGive (faulty BadRecord)
+        → RecordsGive (Err BadRecord)
     -- the file ends within record k
     cut_short_of : (k : ℕ) → SoundBefore k → record_at k < length s → length s < record_at (k + 1)
-        → RecordsGive (faulty RecordCutShort)
+        → RecordsGive (Err RecordCutShort)
     -- the file ends with its last record
     whole : (rs : List Record) → SoundBefore (length rs) → length s ≡ record_at (length rs)
-        → ((k : ℕ) (d : Record) → k < length rs → get_or rs k d ≡ record_of_is (drop (record_at k) s)) → RecordsGive (sound rs)
+        → ((k : ℕ) (d : Record) → k < length rs → get_or rs k d ≡ record_of_is (drop (record_at k) s)) → RecordsGive (Ok rs)
 
-pub data Gives (s : List ℕ) : Result (List Record) → Type 0 where
-  too_short_of : length s < file_header_octets → Gives s (faulty BadFileMark)
-  wrong_magic : file_header_octets ≤ length s → take 3 s ≢ magic → Gives s (faulty BadFileMark)
-  wrong_version : file_header_octets ≤ length s → take 3 s ≡ magic → be16 s 3 ≢ file_version → Gives s (faulty BadFileVersion)
-  records : {f : Result (List Record)} → file_header_octets ≤ length s → take 3 s ≡ magic → be16 s 3 ≡ file_version
+pub data Gives (s : List ℕ) : Result (List Record) Refusal → Type 0 where
+  too_short_of : length s < file_header_octets → Gives s (Err BadFileMark)
+  wrong_magic : file_header_octets ≤ length s → take 3 s ≢ magic → Gives s (Err BadFileMark)
+  wrong_version : file_header_octets ≤ length s → take 3 s ≡ magic → be16 s 3 ≢ file_version → Gives s (Err BadFileVersion)
+  records : {f : Result (List Record) Refusal} → file_header_octets ≤ length s → take 3 s ≡ magic → be16 s 3 ≡ file_version
       → RecordsGive s file_header_octets f → Gives s f

@@ -19,11 +19,12 @@ const U16S: u32 = 0x1_0000;
 pub fn age(rts: u32, time: u32) -> u32
     ensures value { result ≡ age_of rts time }
 {
-    std::num::wrapping_sub_u32(rts, time)
+    rts.wrapping_sub(time)
 }
 
 // The arrival time offset of an age.
 // Branch-free on purpose: over many cells these branches are unpredictable and cost time.
+#[tactic(auto, unfolding(metric::specs::Metric::ato_of_age))]
 pub fn ato_of_age(age: u32) -> u16
     ensures value { result ≡ ato_of_age age }
     ensures bits { result < mark_unit }

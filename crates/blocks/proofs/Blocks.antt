@@ -1,20 +1,20 @@
 -- What a turn of the writer does to the packet that is being filled. Assumes nothing.
 use mathlib.Core.Path.{◌≡◌, refl, sym, ap, ◌∙◌}
 use mathlib.Core.List.{List, [], ◌∷◌, ◌++◌, map}
-use Prim.Native.Nat.{ℕ, zero, suc, ◌+◌, ◌-◌, ◌≤◌, ◌<◌, zero-le}
+use Prim.Native.Nat.{ℕ, ◌+◌, ◌-◌, ◌≤◌, ◌<◌, zero-le}
 use native.Mathlib.Omega.{arith}
 use native.Mathlib.Nat.{sub-zero}
-use lib.ListN.{length, take, drop, get_or}
+use lib.ListN.{length, drop, get_or}
 use lib.Seq.{sets}
 use Rattle.octets.proofs.Sets.{sets_next}
 use Rattle.packet.specs.Packet.{encode_block, encode_blocks}
 use Rattle.packet.specs.Sizes.{block_octets, blocks_octets, packet_header_octets}
 use Rattle.packet.proofs.Sizes.{length_block}
-use Rattle.cutting.specs.Cutting.{CutBlock, following, numbers_from, whole_blocks, counts}
+use Rattle.cutting.specs.Cutting.{CutBlock, numbers_from, whole_blocks, counts}
 use Rattle.cutting.specs.Plan.{next_block, number_after, first_numbers, later_numbers, Filled, closed, onto, filled_from}
 use Rattle.cutting.specs.declared.Request.{Request}
 use Rattle.cutting.proofs.Plan.{filled_none, filled_by_lem}
-use Rattle.cutting.proofs.Requests.{no_request, blocks_cons, blocks_none, stream_at}
+use Rattle.cutting.proofs.Requests.{no_request, blocks_cons, blocks_none, stream_at, after_add}
 use Rattle.blocks.specs.declared.Position.{Position}
 use Rattle.blocks.specs.Packets.{report_block}
 use Rattle.blocks.specs.Steps.{skip_numbers, remaining, InFirst, InRange, PutBlocks}
@@ -34,66 +34,60 @@ in_none : (w : List CutBlock) → InFirst 0 w
 in_none [] = tt
 in_none (b ∷ w) = zero-le
 
-after_add : (s i j : ℕ) → number_after (number_after s i) j ≡ number_after s (i + j)
-after_add s zero j = let e : zero + j ≡ j = omega arith in rw e
-after_add s (suc i) j =
-    let e : suc i + j ≡ suc (i + j) = omega arith in
-    rw e (after_add (following s) i j)
-
 -- the range of the request i without its first j numbers
 abbrev pub range_at_lem : List Request → ℕ → ℕ → CutBlock
 range_at_lem rs i j = later_numbers (record { request = i; begin = (get_or rs i no_request).begin; count = (get_or rs i no_request).count }) j
 
-module _ (rs : List Request) (n : ℕ) (fits : n ≤ length rs) where
-  pub remaining_at : (i j : ℕ) → i < n → remaining (take n rs) (position i j) ≡ range_at_lem rs i j ∷ whole_blocks (i + 1) (drop (i + 1) (take n rs))
-  remaining_at i j h = rw (blocks_cons rs n fits i h)
+module _ (rs : List Request) where
+  pub remaining_at : (i j : ℕ) → i < length rs → remaining rs (position i j) ≡ range_at_lem rs i j ∷ whole_blocks (i + 1) (drop (i + 1) rs)
+  remaining_at i j h = rw (blocks_cons rs i h)
 
-  pub remaining_next : (i : ℕ) → remaining (take n rs) (position i 0) ≡ whole_blocks i (drop i (take n rs))
-  remaining_next i = skip_none (whole_blocks i (drop i (take n rs)))
+  pub remaining_next : (i : ℕ) → remaining rs (position i 0) ≡ whole_blocks i (drop i rs)
+  remaining_next i = skip_none (whole_blocks i (drop i rs))
 
-  pub remaining_past : (i j : ℕ) → n ≤ i → remaining (take n rs) (position i j) ≡ []
-  remaining_past i j h = rw (blocks_none rs n fits i h)
+  pub remaining_past : (i j : ℕ) → length rs ≤ i → remaining rs (position i j) ≡ []
+  remaining_past i j h = rw (blocks_none rs i h)
 
-  pub range_at : (i j : ℕ) → i < n → InRange (take n rs) (position i j) → j ≤ (get_or rs i no_request).count
-  range_at i j h r = rw (blocks_cons rs n fits i h) at r
+  pub range_at : (i j : ℕ) → i < length rs → InRange rs (position i j) → j ≤ (get_or rs i no_request).count
+  range_at i j h r = rw (blocks_cons rs i h) at r
 
-  pub range_in : (i j : ℕ) → i < n → j ≤ (get_or rs i no_request).count → InRange (take n rs) (position i j)
-  range_in i j h l = rw (blocks_cons rs n fits i h) l
+  pub range_in : (i j : ℕ) → i < length rs → j ≤ (get_or rs i no_request).count → InRange rs (position i j)
+  range_in i j h l = rw (blocks_cons rs i h) l
 
-  pub range_start : (i : ℕ) → InRange (take n rs) (position i 0)
-  range_start i = in_none (whole_blocks i (drop i (take n rs)))
+  pub range_start : (i : ℕ) → InRange rs (position i 0)
+  range_start i = in_none (whole_blocks i (drop i rs))
 
   -- ---- the packet that starts at a position, by its next block
 
-  module _ (i j room count : ℕ) (h : i < n) (e : count ≡ (get_or rs i no_request).count - j) where
+  module _ (i j room count : ℕ) (h : i < length rs) (e : count ≡ (get_or rs i no_request).count - j) where
     pub next_whole : next_block room count ≡ Whole
-        → filled_from room (remaining (take n rs) (position i j))
-        ≡ onto (first_numbers (range_at_lem rs i j) count) (filled_from (room - block_octets count) (remaining (take n rs) (position (i + 1) 0)))
+        → filled_from room (remaining rs (position i j))
+        ≡ onto (first_numbers (range_at_lem rs i j) count) (filled_from (room - block_octets count) (remaining rs (position (i + 1) 0)))
     next_whole b =
         rw (remaining_at i j h, remaining_next (i + 1), e)
-        (filled_by_lem room (range_at_lem rs i j) (whole_blocks (i + 1) (drop (i + 1) (take n rs))) Whole (ap (next_block room) (sym e) ∙ b))
+        (filled_by_lem room (range_at_lem rs i j) (whole_blocks (i + 1) (drop (i + 1) rs)) Whole (ap (next_block room) (sym e) ∙ b))
 
     pub next_part : (k : ℕ) → next_block room count ≡ Part k
-        → filled_from room (remaining (take n rs) (position i j)) ≡ onto (first_numbers (range_at_lem rs i j) k) (closed (remaining (take n rs) (position i (j + k))))
+        → filled_from room (remaining rs (position i j)) ≡ onto (first_numbers (range_at_lem rs i j) k) (closed (remaining rs (position i (j + k))))
     next_part k b =
         let c : (get_or rs i no_request).count - j - k ≡ (get_or rs i no_request).count - (j + k) = omega arith in
         rw (remaining_at i j h, remaining_at i (j + k) h, ← after_add (get_or rs i no_request).begin j k, ← c)
-        (filled_by_lem room (range_at_lem rs i j) (whole_blocks (i + 1) (drop (i + 1) (take n rs))) (Part k) (ap (next_block room) (sym e) ∙ b))
+        (filled_by_lem room (range_at_lem rs i j) (whole_blocks (i + 1) (drop (i + 1) rs)) (Part k) (ap (next_block room) (sym e) ∙ b))
 
     pub next_closed : next_block room count ≡ Closed
-        → filled_from room (remaining (take n rs) (position i j)) ≡ closed (remaining (take n rs) (position i j))
+        → filled_from room (remaining rs (position i j)) ≡ closed (remaining rs (position i j))
     next_closed b =
         rw (remaining_at i j h)
-        (filled_by_lem room (range_at_lem rs i j) (whole_blocks (i + 1) (drop (i + 1) (take n rs))) Closed (ap (next_block room) (sym e) ∙ b))
+        (filled_by_lem room (range_at_lem rs i j) (whole_blocks (i + 1) (drop (i + 1) rs)) Closed (ap (next_block room) (sym e) ∙ b))
 
-  pub next_past : (i j room : ℕ) → n ≤ i → filled_from room (remaining (take n rs) (position i j)) ≡ closed (remaining (take n rs) (position i j))
-  next_past i j room h = rw (remaining_past i j h) (filled_none room)
+  pub next_past : (i j room : ℕ) → length rs ≤ i → filled_from room (remaining rs (position i j)) ≡ closed (remaining rs (position (length rs) 0))
+  next_past i j room h = rw (remaining_past i j h, remaining_past (length rs) 0 (omega arith)) (filled_none room)
 
   -- the block that was written is that of the position
-  pub block_here : (metric : ℕ → ℕ → ℕ) (out out' : List ℕ) (at i j k begin : ℕ) → i < n → begin ≡ number_after (get_or rs i no_request).begin j
+  pub block_here : (metric : ℕ → ℕ → ℕ) (out out' : List ℕ) (at i j k begin : ℕ) → i < length rs → begin ≡ number_after (get_or rs i no_request).begin j
       → out' ≡ sets out at (encode_block (record { ssrc = (get_or rs i no_request).ssrc; begin = begin; metrics = map (metric i) (numbers_from begin k) }))
-      → out' ≡ sets out at (encode_block (report_block metric (take n rs) (first_numbers (range_at_lem rs i j) k)))
-  block_here metric out out' at i j k begin h e o = rw (stream_at rs n fits i h, ← e) o
+      → out' ≡ sets out at (encode_block (report_block metric rs (first_numbers (range_at_lem rs i j) k)))
+  block_here metric out out' at i j k begin h e o = rw (stream_at rs i, ← e) o
 
 -- ---- a packet on the way
 

@@ -1,19 +1,17 @@
 -- Rules: "Writer". The packets that answer requests: each block of the plan with the metrics of its
 -- numbers (rule "Metrics"), and packets back to back (rule "Back to back").
-use Rattle.std.specs.Prelude.{ℕ, List, [], ◌∷◌, ◌++◌, map}
-use Rattle.lists.specs.declared.Found.{Found}
+use Rattle.std.specs.Prelude.{ℕ, List, [], ◌∷◌, ◌++◌, map, Option, Some, None}
 use Rattle.places.specs.Place.{find_of}
 use Rattle.cell_metrics.specs.Metrics.{cell_metric}
 use Rattle.cutting.specs.Cutting.{CutBlock, CutPacket, numbers_from, stream_of}
 use Rattle.cutting.specs.Plan.{plan}
 use Rattle.cutting.specs.declared.Request.{Request}
-use Rattle.lists.specs.declared.Found.TheVariants.{At, Nothing}
 use Rattle.packet.specs.Packet as packet
 
 -- the metric of a number of a stream, at RTS: that of its cell; 0 where no place holds the stream
-abbrev pub store_metric_at : Found → List ℕ → ℕ → ℕ → ℕ
-store_metric_at (At p) cells rts number = cell_metric cells rts p number
-store_metric_at Nothing cells rts number = 0
+abbrev pub store_metric_at : Option ℕ → List ℕ → ℕ → ℕ → ℕ
+store_metric_at (Some p) cells rts number = cell_metric cells rts p number
+store_metric_at None cells rts number = 0
 
 abbrev pub store_metric : List ℕ → List ℕ → ℕ → ℕ → ℕ → ℕ
 store_metric places cells rts ssrc number = store_metric_at (find_of places ssrc) cells rts number

@@ -4,14 +4,15 @@ use Rattle.std.specs.Prelude.{◌≡◌, List, [], ◌∷◌, map, ℕ, ◌+◌,
 use Rattle.std.proofs.lemmas.List.Edits.{sets}
 use Rattle.ring.specs.Ring.{cells_of_a_place}
 use Rattle.cell_metrics.specs.Metrics.{cell_metric}
-use Rattle.packet.specs.Packet.{encode_blocks, encode_packet}
+use Rattle.packet.specs.Packet.{Packet, encode_blocks, encode_packet}
 use Rattle.packet.specs.Sizes.{blocks_octets, packet_frame, packet_octets, packet_header_octets}
 use Rattle.cutting.specs.Cutting.{CutBlock, whole_blocks, counts}
 use Rattle.cutting.specs.Limits.{least_limit, most_limit, most_requests}
-use Rattle.cutting.specs.Plan.{later_numbers, Filled, filled_from}
+use Rattle.cutting.specs.Plan.{later_numbers, Filled, filled_from, plan}
 use Rattle.cutting.specs.declared.Request.{Request}
 use Rattle.blocks.specs.declared.Position.{Position}
 use Rattle.blocks.specs.declared.Progress.{Progress}
+use Rattle.blocks.specs.declared.Report.{Report}
 use Rattle.blocks.specs.Packets.{report_block, report_packet}
 
 abbrev pub progress_at : ℕ → ℕ → ℕ → Progress
@@ -43,12 +44,26 @@ next_packet limit rs p = filled_from (limit - packet_frame) (remaining rs p)
 abbrev pub metric_found : List ℕ → ℕ → List ℕ → ℕ → ℕ → ℕ
 metric_found cells rts found i number = cell_metric cells rts (get_or found i 0) number
 
--- what writing packets needs: a sound limit, at most 16 requests, and a place with its cells for each
-pub record Prepared (limit n : ℕ) (cells found : List ℕ) : Type 0 where
-  pub least : least_limit ≤ limit
-  pub most : limit ≤ most_limit
-  pub few : n ≤ most_requests
-  pub held : (i : ℕ) → i < n → cells_of_a_place * get_or found i 0 + cells_of_a_place ≤ length cells
+-- what writing a report needs: a sound limit, at most 16 requests, and a place with its cells for each
+pub record Prepared (report : Report) : Type 0 where
+  pub least : least_limit ≤ report.limit
+  pub most : report.limit ≤ most_limit
+  pub few : length report.requests.now ≤ most_requests
+  pub found_all : length report.requests.now ≤ length report.found.now
+  pub held : (i : ℕ) → i < length report.requests.now
+      → cells_of_a_place * get_or report.found.now i 0 + cells_of_a_place ≤ length report.cells.now
+
+-- the metrics of a report, and its packet that starts at a position
+abbrev pub metric_in : Report → ℕ → ℕ → ℕ
+metric_in report = metric_found report.cells.now report.rts report.found.now
+
+abbrev pub packet_from : Report → Position → Filled
+packet_from report p = next_packet report.limit report.requests.now p
+
+-- all its packets
+abbrev pub packets_in : Report → List Packet
+packets_in report =
+    map (report_packet (metric_in report) report.requests.now report.sender report.rts) (plan report.limit report.requests.now)
 
 -- the blocks of the packet f were written, the first one at octet 8
 pub record PutBlocks (metric : ℕ → ℕ → ℕ) (rs : List Request) (f : Filled) (entry exit : List ℕ) (r : Progress) : Type 0 where

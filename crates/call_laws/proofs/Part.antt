@@ -17,7 +17,8 @@ use Rattle.reports.specs.Reports.{Within, reported_in}
 use Rattle.reports.proofs.Within.{within}
 use Rattle.reader.specs.Reading.{decode_packet, read_of}
 use Rattle.block_reader.specs.Blocks.{read_block}
-use Rattle.block_reader.specs.declared.BlockAnswer.{BlockAnswer}
+use Rattle.std.specs.Prelude.{Result, Ok, Err}
+use Rattle.refusal.specs.declared.Refusal.{Refusal}
 use Rattle.metric_reader.proofs.Within.{located_within}
 use Rattle.ccfb_calls.specs.Called.{called}
 use Rattle.ccfb_reports.specs.Reports.{part_called}
@@ -26,9 +27,6 @@ use Rattle.call_laws.specs.Part.{metrics_given, number_given, numbered, HoldsMet
 use Rattle.call_laws.proofs.Calls.{answers, numbers, step_given}
 use Rattle.call_laws.proofs.Walk.{accepted_yields}
 use Rattle.refusal.specs.declared.Refusal.TheVariants.{NoNumber}
-use Rattle.metric_part.specs.declared.PartAnswer.TheVariants as part
-use Rattle.reader.specs.declared.Reading.TheVariants as reading
-use Rattle.block_reader.specs.declared.BlockAnswer.TheVariants as answer
 
 module _ (s : List ℕ) where
   module _ (b : ReportBlock) (w : Within s b) where
@@ -52,10 +50,10 @@ module _ (s : List ℕ) where
     given_count : length (metrics_given s b) / 2 ≡ b.num_reports
     given_count = omega (arith, given_size)
 
-    case_held : (j : ℕ) → j < b.num_reports → case_at (metrics_given s b) j ≡ part.Case (decode_of (be16 s (b.metrics_at + 2 * j)))
+    case_held : (j : ℕ) → j < b.num_reports → case_at (metrics_given s b) j ≡ Ok (decode_of (be16 s (b.metrics_at + 2 * j)))
     case_held j l = rw given_count (simp (lt-leb b.num_reports j l) (rw (given_metric j l)))
 
-    case_past : (j : ℕ) → b.num_reports ≤ j → case_at (metrics_given s b) j ≡ part.Refused NoNumber
+    case_past : (j : ℕ) → b.num_reports ≤ j → case_at (metrics_given s b) j ≡ Err NoNumber
     case_past j l = rw given_count (simp (le-leb b.num_reports j l))
 
     given_case : (j : ℕ) → reported_in b s j ≡ numbered (number_given b j) (case_at (metrics_given s b) j)
@@ -66,7 +64,7 @@ module _ (s : List ℕ) where
 
   -- ---- a block that the reader finds
 
-  module _ (k : ℕ) (b : ReportBlock) (found : read_block s k ≡ answer.Found b) where
+  module _ (k : ℕ) (b : ReportBlock) (found : read_block s k ≡ Ok b) where
     pub found_holds : HoldsMetrics s k b
     found_holds =
         let w = located_within s k b found in
@@ -91,7 +89,7 @@ module _ (s : List ℕ) where
         within s at b step.0 step.1.0
 
     -- and they are those of the reader's block k, if the packet is accepted
-    module _ (sender rts n : ℕ) (accepted : read_of (decode_packet s) ≡ reading.Accepted sender rts n) where
+    module _ (sender rts n : ℕ) (accepted : read_of (decode_packet s) ≡ Ok (record { sender = sender; rts = rts; blocks = n })) where
       pub given_holds : HoldsMetrics s k b
       given_holds = found_holds k b ((accepted_yields s m sender rts n accepted).only k b g).1
 
@@ -103,8 +101,8 @@ module _ (s : List ℕ) where
   pub part_given : (k number at size : ℕ) → part_called (read_block s k) ≡ called number (at ∷ size ∷ []) → PartGiven s k number at size
   part_given k number at size h = by_block (read_block s k) refl h
     where
-      by_block : (a : BlockAnswer) → read_block s k ≡ a → part_called a ≡ called number (at ∷ size ∷ []) → PartGiven s k number at size
-      by_block (answer.Found b) f h =
+      by_block : (a : Result ReportBlock Refusal) → read_block s k ≡ a → part_called a ≡ called number (at ∷ size ∷ []) → PartGiven s k number at size
+      by_block (Ok b) f h =
           let w = located_within s k b f in
           let n : number ≡ 0 = sym (answers h) in
           let z = numbers h in
@@ -116,7 +114,7 @@ module _ (s : List ℕ) where
             refusal = rw f n;
             refused = λ e g. never (cc);
           }
-      by_block (answer.Refused e) f h =
+      by_block (Err e) f h =
           let n : number ≡ number_of e = sym (answers h) in
           let z = numbers h in
           let a : at ≡ 0 = cc in

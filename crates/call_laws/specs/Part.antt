@@ -1,22 +1,19 @@
 -- Rules: "Reader", "Walk". The octets at an offset of a packet s that a call has given: they are
 -- the part with the metrics of block k (rules "Part", "Metric of a part").
-use Rattle.std.specs.Prelude.{ℕ, ◌+◌, ◌*◌, ◌%◌, ◌<◌, ◌≤◌, ◌≡◌, List, [], ◌∷◌, length, take, drop}
+use Rattle.std.specs.Prelude.{ℕ, ◌+◌, ◌*◌, ◌%◌, ◌<◌, ◌≤◌, ◌≡◌, List, [], ◌∷◌, length, take, drop, Result, Ok, Err}
 use Rattle.refusal.specs.Numbers.{number_of}
 use Rattle.refusal.specs.declared.Refusal.{Refusal}
 use Rattle.window.specs.Number.{sequence_numbers}
 use Rattle.walk.specs.declared.ReportBlock.{ReportBlock}
 use Rattle.metric_part.specs.Part.{case_at}
-use Rattle.metric_part.specs.declared.PartAnswer.{PartAnswer}
-use Rattle.reports.specs.declared.MetricAnswer.{MetricAnswer}
+use Rattle.metric.specs.declared.Metric.{Metric}
+use Rattle.reports.specs.declared.Reported.{Reported}
 use Rattle.block_reader.specs.Blocks.{read_block}
 use Rattle.metric_reader.specs.Metrics.{block_refusal, metrics_part, read_metric}
 use Rattle.ccfb_calls.specs.Called.{Called, called, refused_with}
 use Rattle.ccfb_block_metric.specs.Metric.{metric_called}
 use Rattle.ccfb_walk.specs.Walk.{metric_at_called}
 use Rattle.refusal.specs.declared.Refusal.TheVariants.{NoNumber}
-use Rattle.block_reader.specs.declared.BlockAnswer.TheVariants as answer
-use Rattle.metric_part.specs.declared.PartAnswer.TheVariants as part
-use Rattle.reports.specs.declared.MetricAnswer.TheVariants as reported
 
 -- as many octets, starting at an offset
 abbrev pub octets_at : List ℕ → ℕ → ℕ → List ℕ
@@ -27,9 +24,9 @@ abbrev pub metrics_given : List ℕ → ReportBlock → List ℕ
 metrics_given s b = octets_at s b.metrics_at (2 * b.num_reports)
 
 -- the case that a part holds, with the number that it is of
-abbrev pub numbered : ℕ → PartAnswer → MetricAnswer
-numbered number (part.Case m) = reported.Reported number m
-numbered number (part.Refused e) = reported.Refused e
+abbrev pub numbered : ℕ → Result Metric Refusal → Result Reported Refusal
+numbered number (Ok m) = Ok (record { number = number; metric = m })
+numbered number (Err e) = Err e
 
 -- an answer with one more number behind a pointer, in front of the others
 abbrev pub with_number : ℕ → Called → Called
@@ -56,10 +53,10 @@ pub record AnswersMetrics (s : List ℕ) (k : ℕ) (b : ReportBlock) : Type 0 wh
       → metric_at_called (case_at (metrics_given s b) j) case mark offset ≡ refused_with NoNumber (case ∷ mark ∷ offset ∷ [])
 
 -- what `ccfb_block_metrics` answers, and the offset and the length that it gives, belong to block k: the octets there
--- are the part that `block_metrics` returns, and the answer is the number that it gives beside the part
+-- are the part that `block_metrics` returns, and the answer is the number of its refusal, or 0
 pub record PartGiven (s : List ℕ) (k given at size : ℕ) : Type 0 where
   pub part : octets_at s at size ≡ metrics_part (read_block s k) s
   pub octets : length (metrics_part (read_block s k) s) ≡ size
   pub refusal : given ≡ block_refusal (read_block s k)
-  pub refused : (e : Refusal) → read_block s k ≡ answer.Refused e
+  pub refused : (e : Refusal) → read_block s k ≡ Err e
       → (given ≡ number_of e) × (at ≡ 0) × (size ≡ 0) × (metrics_part (read_block s k) s ≡ [])

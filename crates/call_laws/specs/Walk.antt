@@ -2,7 +2,7 @@
 -- `ccfb_first_block`, then `ccfb_next_block` as long as it answers 0, each call at the offset that
 -- the call before left. It is defined by what the two calls answer, as their contracts say it. The
 -- theorems are the rule "Same as the reader".
-use Rattle.std.specs.Prelude.{ℕ, suc, ◌<◌, ◌≡◌, List, [], ◌∷◌}
+use Rattle.std.specs.Prelude.{ℕ, suc, ◌<◌, ◌≡◌, List, [], ◌∷◌, Ok}
 use Rattle.refusal.specs.declared.Refusal.{Refusal}
 use Rattle.packet_header.specs.Header.{start_of}
 use Rattle.walk.specs.Walk.{step_at}
@@ -11,7 +11,6 @@ use Rattle.block_reader.specs.Blocks.{read_block}
 use Rattle.ccfb_calls.specs.Called.{Called, called, refused_with}
 use Rattle.ccfb_walk.specs.Walk.{first_called, next_called}
 use Rattle.refusal.specs.declared.Refusal.TheVariants.{NoBlock}
-use Rattle.block_reader.specs.declared.BlockAnswer.TheVariants as answer
 
 -- What stands behind the pointers before each call: the offset before `ccfb_first_block`, and the other four numbers
 -- before call k, from 0, of `ccfb_next_block`. It may be anything.
@@ -61,7 +60,7 @@ pub data Refuses (s : List ℕ) (m : Memory) (e : Refusal) : Type 0 where
 
 -- ---- the walk of a packet of n blocks: just the reader's blocks 0 to n - 1, and then the end
 pub record Yields (s : List ℕ) (m : Memory) (n : ℕ) : Type 0 where
-  pub each : (k : ℕ) → k < n → (b : ReportBlock) × ((read_block s k ≡ answer.Found b) × WalkGives s m k b)
-  pub only : (k : ℕ) (b : ReportBlock) → WalkGives s m k b → (k < n) × (read_block s k ≡ answer.Found b)
+  pub each : (k : ℕ) → k < n → (b : ReportBlock) × ((read_block s k ≡ Ok b) × WalkGives s m k b)
+  pub only : (k : ℕ) (b : ReportBlock) → WalkGives s m k b → (k < n) × (read_block s k ≡ Ok b)
   pub end : Ends s m n
   pub once : (k : ℕ) → Ends s m k → k ≡ n

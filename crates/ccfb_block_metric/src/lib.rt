@@ -7,8 +7,6 @@ ghost use Rattle.metric_reader.specs.Metrics.{read_metric};
 ghost use Rattle.ccfb_calls.specs.Called.{called};
 ghost use Rattle.ccfb_block_metric.specs.Metric.{metric_called};
 
-use reports::MetricAnswer;
-
 // The sequence number and the case of metric j of block k, both from 0. Refusals 21 to 30.
 #[unsafe(no_mangle)]
 pub extern "C" fn ccfb_metric(
@@ -26,14 +24,11 @@ pub extern "C" fn ccfb_metric(
 {
     let answer = metric_reader::metric(packet, k, j);
     match answer {
-        MetricAnswer::Reported {
-            number: n,
-            metric: m,
-        } => {
-            *number = n;
-            *case = ccfb_calls::put_case(m, mark, offset);
+        Ok(reported) => {
+            *number = reported.number;
+            *case = ccfb_calls::put_case(reported.metric, mark, offset);
             0
         }
-        MetricAnswer::Refused(e) => refusal::number(e),
+        Err(e) => refusal::number(e),
     }
 }

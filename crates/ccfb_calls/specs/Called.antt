@@ -1,7 +1,7 @@
 -- Rules: "Refusals", rule "Refused calls". What a call from C answers, and what it leaves behind
 -- its pointers to numbers. A contract says that the answer and the numbers after the call are what
 -- a definition makes of the numbers before it.
-use Rattle.std.specs.Prelude.{ℕ, List, ◌∷◌, []}
+use Rattle.std.specs.Prelude.{ℕ, List, ◌∷◌, [], Result, Ok, Err}
 use Rattle.refusal.specs.Numbers.{number_of}
 use Rattle.refusal.specs.declared.Refusal.{Refusal}
 use Rattle.metric.specs.Metric.{case_number}
@@ -15,6 +15,11 @@ pub record Called : Type 0 where
 
 abbrev pub called : ℕ → List ℕ → Called
 called a b = record { answer = a; behind = b }
+
+-- 0, or the refusal's number
+abbrev pub refusal_number : Result (Unit {0}) Refusal → ℕ
+refusal_number (Ok tt) = 0
+refusal_number (Err e) = number_of e
 
 -- a refusal's number, and the numbers as they were
 abbrev pub refused_with : Refusal → List ℕ → Called

@@ -9,9 +9,6 @@ ghost use Rattle.datagram_reader.specs.Reading.{read_feedback};
 ghost use Rattle.ccfb_calls.specs.Called.{called};
 ghost use Rattle.ccfb_datagram.specs.Datagrams.{count_called, feedback_called, packet_called};
 
-use datagram::PacketStep;
-use datagram_count::FeedbackCount;
-use datagram_reader::FeedbackAnswer;
 use refusal::Refusal;
 
 // How many CCFB packets a datagram holds. Refusal 31.
@@ -22,11 +19,11 @@ pub extern "C" fn ccfb_feedback_count(datagram: &[u8], count: &mut usize) -> u8
 {
     let answer = datagram_count::count_feedback(datagram);
     match answer {
-        FeedbackCount::Packets(n) => {
+        Ok(n) => {
             *count = n;
             0
         }
-        FeedbackCount::Refused(e) => refusal::number(e),
+        Err(e) => refusal::number(e),
     }
 }
 
@@ -44,12 +41,12 @@ pub extern "C" fn ccfb_feedback(
 {
     let answer = datagram_reader::feedback(datagram, k);
     match answer {
-        FeedbackAnswer::Found(found) => {
+        Ok(found) => {
             *packet_at = found.at;
             *packet_length = found.size;
             0
         }
-        FeedbackAnswer::Refused(e) => {
+        Err(e) => {
             *packet_at = 0;
             *packet_length = 0;
             refusal::number(e)
@@ -74,9 +71,8 @@ pub extern "C" fn ccfb_next_packet(
         (at.old ∷ packet_type.old ∷ format.old ∷ packet_at.old
         ∷ packet_length.old ∷ []) }
 {
-    let here = datagram_walk::next_packet(datagram, *at);
-    match here {
-        PacketStep::Packet(p) => {
+    match datagram_walk::next_packet(datagram, *at) {
+        Ok(Some(p)) => {
             *at = p.at + p.size;
             *packet_type = p.packet_type;
             *format = p.format;
@@ -84,7 +80,7 @@ pub extern "C" fn ccfb_next_packet(
             *packet_length = p.size;
             0
         }
-        PacketStep::End => refusal::number(Refusal::NoPacket),
-        PacketStep::Broken => refusal::number(Refusal::BadDatagram),
+        Ok(None) => refusal::number(Refusal::NoPacket),
+        Err(fault) => refusal::number(fault),
     }
 }

@@ -1,12 +1,12 @@
 // The calls for C on one metric: from mark and time to 16 bits, and from 16 bits to kind, mark and offset.
-#![tactic(auto)]
+#![tactic(auto, unfolding(crate::specs::Metrics::encode_called))]
 
 ghost use Rattle.std.specs.Prelude.{◌≡◌, [], ◌∷◌};
 ghost use Rattle.metric.specs.Metric.{decode_of};
 ghost use Rattle.ccfb_calls.specs.Called.{called, case_behind};
 ghost use Rattle.ccfb_metric.specs.Metrics.{encode_called};
 
-use metric::{CONGESTED, Cell};
+use metric::{Arrived, CONGESTED};
 use refusal::Refusal;
 
 // The metric of a sequence number that came with that mark and time. Refusal 1: no such mark.
@@ -21,16 +21,11 @@ pub extern "C" fn ccfb_encode_metric(
     ensures after { called result (metric.new ∷ [])
         ≡ encode_called mark time_known time rts metric.old }
 {
-    if CONGESTED < mark {
+    if mark > CONGESTED {
         return refusal::number(Refusal::BadMark);
     }
-    *metric = metric_encode::encode(
-        Cell::Filled {
-            mark: mark,
-            time: metric::time_of(time_known, time),
-        },
-        rts,
-    );
+    let time = metric::time_of(time_known, time);
+    *metric = metric_encode::encode(Some(Arrived { mark, time }), rts);
     0
 }
 

@@ -5,8 +5,6 @@ ghost use Rattle.std.specs.Prelude.{◌≡◌};
 ghost use Rattle.metric_arrays.specs.Arrays.{arrays, decoded_all};
 ghost use Rattle.ccfb_metric_arrays.specs.Decoding.{decoding, decode_called};
 
-use metric_arrays::ArraysAnswer;
-
 // Decodes the metrics of a part: entry j of the arrays has the case of metric j, its mark and its offset, 0 where the case
 // has none. Refusal 10.
 #[unsafe(no_mangle)]
@@ -22,7 +20,7 @@ pub extern "C" fn ccfb_decode_metrics(
 {
     let answer = metric_arrays::decode_metrics(part, cases, marks, offsets);
     match answer {
-        ArraysAnswer::Decoded => 0,
-        ArraysAnswer::Refused(e) => refusal::number(e),
+        Ok(()) => 0,
+        Err(e) => refusal::number(e),
     }
 }

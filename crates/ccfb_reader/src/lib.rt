@@ -7,8 +7,7 @@ ghost use Rattle.block_reader.specs.Blocks.{read_block};
 ghost use Rattle.ccfb_calls.specs.Called.{called};
 ghost use Rattle.ccfb_reader.specs.Packets.{read_called, block_called};
 
-use block_reader::BlockAnswer;
-use reader::Reading;
+use reader::Summary;
 
 // The sender, RTS and the number of blocks. Refusals 21 to 28.
 #[unsafe(no_mangle)]
@@ -24,17 +23,19 @@ pub extern "C" fn ccfb_read(
 {
     let answer = reader::read(packet);
     match answer {
-        Reading::Accepted {
-            sender: s,
-            rts: t,
-            blocks: n,
-        } => {
+        Ok(
+            Summary {
+                sender: s,
+                rts: t,
+                blocks: n,
+            },
+        ) => {
             *sender = s;
             *rts = t;
             *blocks = n;
             0
         }
-        Reading::Refused(e) => refusal::number(e),
+        Err(e) => refusal::number(e),
     }
 }
 
@@ -53,12 +54,12 @@ pub extern "C" fn ccfb_block(
 {
     let answer = block_reader::block(packet, k);
     match answer {
-        BlockAnswer::Found(b) => {
+        Ok(b) => {
             *ssrc = b.ssrc;
             *begin = b.begin_seq;
             *count = b.num_reports;
             0
         }
-        BlockAnswer::Refused(e) => refusal::number(e),
+        Err(e) => refusal::number(e),
     }
 }

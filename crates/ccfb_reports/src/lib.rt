@@ -6,8 +6,6 @@ ghost use Rattle.block_reader.specs.Blocks.{read_block};
 ghost use Rattle.ccfb_calls.specs.Called.{called};
 ghost use Rattle.ccfb_reports.specs.Reports.{part_called};
 
-use block_reader::BlockAnswer;
-
 // The part of the packet that holds the metrics of block k: where it starts, and how many octets it has. Refusals 21 to
 // 29; both numbers are then 0.
 #[unsafe(no_mangle)]
@@ -22,12 +20,12 @@ pub extern "C" fn ccfb_block_metrics(
 {
     let found = block_reader::block(packet, k);
     match found {
-        BlockAnswer::Found(part) => {
+        Ok(part) => {
             *metrics_at = part.metrics_at;
             *metrics_length = 2 * (part.num_reports as usize);
             0
         }
-        BlockAnswer::Refused(e) => {
+        Err(e) => {
             *metrics_at = 0;
             *metrics_length = 0;
             refusal::number(e)

@@ -6,8 +6,6 @@ ghost use Rattle.reader.specs.Reading.{decode_packet};
 ghost use Rattle.rewriter.specs.Rewrite.{rewrite_of};
 ghost use Rattle.ccfb_rewriter.specs.Rewriting.{rewrote, rewrite_called};
 
-use rewriter::Rewriting;
-
 // Writes the packet to the start of the output; its metrics with R = 0 become 0x0000. Refusals 21 to 28, then 10.
 #[unsafe(no_mangle)]
 pub extern "C" fn ccfb_rewrite(packet: &[u8], out: &mut [u8], written: &mut usize) -> u8
@@ -16,10 +14,10 @@ pub extern "C" fn ccfb_rewrite(packet: &[u8], out: &mut [u8], written: &mut usiz
 {
     let answer = rewriter::rewrite(packet, out);
     match answer {
-        Rewriting::Written(n) => {
+        Ok(n) => {
             *written = n;
             0
         }
-        Rewriting::Refused(e) => refusal::number(e),
+        Err(e) => refusal::number(e),
     }
 }

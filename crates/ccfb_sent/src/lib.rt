@@ -8,37 +8,14 @@ ghost use Rattle.sent_register.specs.Register.{registered};
 ghost use Rattle.sent_status.specs.Status.{status_asked};
 ghost use Rattle.sent_feedback.specs.TakeIn.{cells_after, taken_in};
 ghost use Rattle.ccfb_calls.specs.Called.{called};
-ghost use Rattle.ccfb_sent.specs.Sent.{registration_refusal, taking_refusal, register_called, take_in_called};
+ghost use Rattle.ccfb_sent.specs.Sent.{register_called, take_in_called};
 ghost use Rattle.ccfb_sent.specs.Sent.{kind_number, mark_or, time_or, status_called};
 
 use ccfb_calls::{CASE_NO_TIME, CASE_NOT_RECEIVED, CASE_OVER_RANGE, CASE_RECEIVED};
-use sent_feedback::TakingIn;
-use sent_register::Registration;
-use sent_status::StatusAnswer;
 use sent_word::Status;
 
 // The number of the one kind of status that no metric has: no feedback on the number came yet.
 const CASE_NOT_REPORTED: u8 = 4;
-
-// 0 for a number that was registered, else the number of the refusal.
-fn registration_refusal(answer: Registration) -> u8
-    ensures value { result ≡ registration_refusal answer }
-{
-    match answer {
-        Registration::Accepted => 0,
-        Registration::Refused(e) => refusal::number(e),
-    }
-}
-
-// 0 for a packet that was taken in, else the number of the refusal.
-fn taking_refusal(answer: TakingIn) -> u8
-    ensures value { result ≡ taking_refusal answer }
-{
-    match answer {
-        TakingIn::Taken => 0,
-        TakingIn::Refused(e) => refusal::number(e),
-    }
-}
 
 // Writes the mark and the time of a status, where it has them, and answers the number of its kind.
 fn put_status(s: Status, mark: &mut u8, time: &mut u32) -> u8
@@ -70,7 +47,7 @@ pub extern "C" fn ccfb_register(places: &mut [u64], cells: &mut [u64], ssrc: u32
     ensures after { store_after result places.new cells.new
         ≡ register_called (registered places.old cells.old ssrc number) }
 {
-    registration_refusal(sent_register::register(places, cells, ssrc, number))
+    ccfb_calls::refusal_number(sent_register::register(places, cells, ssrc, number))
 }
 
 // Takes in a feedback packet. Refusals 4, then the reader's, 21 to 28.
@@ -79,7 +56,7 @@ pub extern "C" fn ccfb_take_in(places: &[u64], cells: &mut [u64], packet: &[u8])
     ensures after { cells_after result cells.new
         ≡ take_in_called (taken_in places.now cells.old packet.now) }
 {
-    taking_refusal(sent_feedback::take_in(places, cells, packet))
+    ccfb_calls::refusal_number(sent_feedback::take_in(places, cells, packet))
 }
 
 // What is known of a sent number. Refusals 4, 5, 37.
@@ -99,10 +76,10 @@ pub extern "C" fn ccfb_status(
 {
     let answer = sent_status::status(places, cells, ssrc, number);
     match answer {
-        StatusAnswer::Known(s) => {
+        Ok(s) => {
             *kind = put_status(s, mark, time);
             0
         }
-        StatusAnswer::Refused(e) => refusal::number(e),
+        Err(e) => refusal::number(e),
     }
 }

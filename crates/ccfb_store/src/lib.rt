@@ -7,20 +7,7 @@ ghost use Rattle.places.specs.After.{places_after};
 ghost use Rattle.store.specs.Store.{forgotten, place_of};
 ghost use Rattle.oldest.specs.Oldest.{oldest_of};
 ghost use Rattle.ccfb_calls.specs.Called.{called};
-ghost use Rattle.ccfb_store.specs.Places.{forgetting_refusal, forget_called, place_called, oldest_called};
-
-use oldest::OldestAnswer;
-use store::{Forgetting, PlaceAnswer};
-
-// 0 for a stream that was forgotten, else the number of the refusal.
-fn forgetting_refusal(answer: Forgetting) -> u8
-    ensures value { result ≡ forgetting_refusal answer }
-{
-    match answer {
-        Forgetting::Forgotten => 0,
-        Forgetting::Refused(e) => refusal::number(e),
-    }
-}
+ghost use Rattle.ccfb_store.specs.Places.{forget_called, place_called, oldest_called};
 
 // Forgets a stream. Refusals 4, 5.
 #[unsafe(no_mangle)]
@@ -28,7 +15,7 @@ pub extern "C" fn ccfb_forget(places: &mut [u64], cells: &[u64], ssrc: u32) -> u
     ensures after { places_after result places.new
         ≡ forget_called (forgotten places.old cells.now ssrc) }
 {
-    forgetting_refusal(store::forget(places, cells, ssrc))
+    ccfb_calls::refusal_number(store::forget(places, cells, ssrc))
 }
 
 // The stream of place k, from 0, and its highest number. Refusals 4, 5.
@@ -44,17 +31,13 @@ pub extern "C" fn ccfb_place(
         ≡ place_called (place_of places.now cells.now k)
         (ssrc.old ∷ highest.old ∷ []) }
 {
-    let answer = store::place(places, cells, k);
-    match answer {
-        PlaceAnswer::Stream {
-            ssrc: s,
-            highest: h,
-        } => {
-            *ssrc = s;
-            *highest = h;
+    match store::place(places, cells, k) {
+        Ok(stream) => {
+            *ssrc = stream.ssrc;
+            *highest = stream.highest;
             0
         }
-        PlaceAnswer::Refused(e) => refusal::number(e),
+        Err(e) => refusal::number(e),
     }
 }
 
@@ -65,12 +48,11 @@ pub extern "C" fn ccfb_oldest(places: &[u64], cells: &[u64], k: usize, oldest: &
         ≡ oldest_called (oldest_of places.now cells.now k)
         (oldest.old ∷ []) }
 {
-    let answer = oldest::oldest(places, cells, k);
-    match answer {
-        OldestAnswer::Number(n) => {
+    match oldest::oldest(places, cells, k) {
+        Ok(n) => {
             *oldest = n;
             0
         }
-        OldestAnswer::Refused(e) => refusal::number(e),
+        Err(e) => refusal::number(e),
     }
 }

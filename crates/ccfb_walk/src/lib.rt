@@ -8,10 +8,8 @@ ghost use Rattle.metric_part.specs.Part.{case_at};
 ghost use Rattle.ccfb_calls.specs.Called.{called};
 ghost use Rattle.ccfb_walk.specs.Walk.{metric_at_called, first_called, next_called};
 
-use metric_part::PartAnswer;
-use packet_header::{Cursor, Start};
+use packet_header::Cursor;
 use refusal::Refusal;
-use walk::Step;
 
 // The offset of the first block, for ccfb_next_block. Refusals 21 to 25.
 #[unsafe(no_mangle)]
@@ -20,11 +18,11 @@ pub extern "C" fn ccfb_first_block(packet: &[u8], at: &mut usize) -> u8
 {
     let first = packet_header::read_header(packet);
     match first {
-        Start::At(c) => {
+        Ok(c) => {
             *at = c.at;
             0
         }
-        Start::Refused(e) => refusal::number(e),
+        Err(e) => refusal::number(e),
     }
 }
 
@@ -46,7 +44,7 @@ pub extern "C" fn ccfb_next_block(
     let cursor = Cursor { at: *at };
     let here = walk::next(cursor, packet);
     match here {
-        Step::Block(block, next) => {
+        Ok(Some((block, next))) => {
             *at = next.at;
             *ssrc = block.ssrc;
             *begin = block.begin_seq;
@@ -54,8 +52,8 @@ pub extern "C" fn ccfb_next_block(
             *metrics_at = block.metrics_at;
             0
         }
-        Step::End => refusal::number(Refusal::NoBlock),
-        Step::Refused(e) => refusal::number(e),
+        Ok(None) => refusal::number(Refusal::NoBlock),
+        Err(fault) => refusal::number(fault),
     }
 }
 
@@ -74,10 +72,10 @@ pub extern "C" fn ccfb_metric_at(
 {
     let answer = metric_part::metric_at(part, j);
     match answer {
-        PartAnswer::Case(m) => {
+        Ok(m) => {
             *case = ccfb_calls::put_case(m, mark, offset);
             0
         }
-        PartAnswer::Refused(e) => refusal::number(e),
+        Err(outside) => refusal::number(outside),
     }
 }

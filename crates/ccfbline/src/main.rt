@@ -17,13 +17,8 @@ fn put_output<R: Read>(input: &mut R, out: &mut [u8]) -> io::Result<usize>
     let mut places = line_store::fresh_places();
     let mut cells = line_store::fresh_cells();
     let mut buf = [0; 65536];
-    match line_input::take_input(input, &mut places, &mut cells, &mut buf) {
-        Ok(intake) => {
-            let n = line::finish(&places, &cells, intake, out);
-            Ok(n)
-        }
-        Err(e) => Err(e),
-    }
+    let intake = line_input::take_input(input, &mut places, &mut cells, &mut buf)?;
+    Ok(line::finish(&places, &cells, intake, out))
 }
 
 // Says on standard error what failed, and why. If that fails too, nobody is left to be told.

@@ -3,12 +3,9 @@
 --   word % 16    0-7 empty, 8-11 received without a time, 12-15 received at a known time
 --   word % 4     the ECN mark, if received
 --   word / 16    the arrival time, if known
-use Rattle.std.specs.Prelude.{ℕ, ◌+◌, ◌*◌, ◌/◌, ◌%◌, cond, eqb, ltb}
+use Rattle.std.specs.Prelude.{ℕ, ◌+◌, ◌*◌, ◌/◌, ◌%◌, cond, eqb, ltb, Option, Some, None}
 use Rattle.metric.specs.Metric.{times, congested}
-use Rattle.metric.specs.declared.Time.{Time}
-use Rattle.metric.specs.declared.Time.TheVariants.{Unknown, Known}
-use Rattle.metric.specs.declared.Cell.{Cell}
-use Rattle.metric.specs.declared.Cell.TheVariants.{Empty, Filled}
+use Rattle.metric.specs.declared.Arrived.{Arrived}
 
 -- a word has one of 16 kinds; it is filled where its kind is 8 or more, and has a time where it is 12 or more
 abbrev pub kinds : ℕ
@@ -22,17 +19,17 @@ least_timed = 12
 
 -- ---- reading
 
-unfoldable pub word_time : ℕ → Time
-word_time word = cond (ltb (word % kinds) least_timed) Unknown (Known (word / kinds % times))
+unfoldable pub word_time : ℕ → Option ℕ
+word_time word = cond (ltb (word % kinds) least_timed) None (Some (word / kinds % times))
 
-unfoldable pub read_cell : ℕ → Cell
-read_cell word = cond (ltb (word % kinds) least_filled) Empty (Filled (word % 4) (word_time word))
+unfoldable pub read_cell : ℕ → Option Arrived
+read_cell word = cond (ltb (word % kinds) least_filled) None (Some (record { mark = word % 4; time = word_time word }))
 
 -- ---- an accepted arrival
 
-abbrev pub filled_word : ℕ → Time → ℕ
-filled_word mark Unknown = least_filled + mark
-filled_word mark (Known t) = least_timed + mark + kinds * t
+abbrev pub filled_word : ℕ → Option ℕ → ℕ
+filled_word mark None = least_filled + mark
+filled_word mark (Some t) = least_timed + mark + kinds * t
 
 -- rule "ECN-CE of any copy": the mark of a filled cell after a copy is ECN-CE if the copy carries
 -- it, else as it was
@@ -44,5 +41,5 @@ abbrev pub copied_word : ℕ → ℕ → ℕ
 copied_word mark word = word / 4 * 4 + folded_mark (word % 4) mark
 
 -- an empty cell is filled; an arrival whose cell is filled is a copy
-unfoldable pub word_after : ℕ → Time → ℕ → ℕ
+unfoldable pub word_after : ℕ → Option ℕ → ℕ → ℕ
 word_after mark time word = cond (ltb (word % kinds) least_filled) (filled_word mark time) (copied_word mark word)

@@ -5,8 +5,6 @@ ghost use Rattle.std.specs.Prelude.{◌≡◌, ◌≤◌};
 ghost use Rattle.metric.specs.Metric.{congested};
 ghost use Rattle.cells.specs.Cell.{folded_mark, filled_word, copied_word};
 
-use metric::Time;
-
 // A word has one of 16 kinds: one of LEAST_FILLED or more is filled, one of LEAST_TIMED or more at a known time.
 pub const KINDS: u64 = 16;
 
@@ -37,12 +35,12 @@ pub fn fold_mark(held: u8, copy: u8) -> u8
 }
 
 // The word of a filled cell.
-pub fn filled_word(mark: u8, time: Time) -> u64
+pub fn filled_word(mark: u8, time: Option<u32>) -> u64
     ensures value { result ≡ filled_word mark time }
 {
     match time {
-        Time::Unknown => LEAST_FILLED + (mark as u64),
-        Time::Known(t) => LEAST_TIMED + (mark as u64) + KINDS * (t as u64),
+        None => LEAST_FILLED + (mark as u64),
+        Some(t) => LEAST_TIMED + (mark as u64) + KINDS * (t as u64),
     }
 }
 

@@ -16,7 +16,8 @@ use Rattle.datagram.specs.Datagram.{IsPacket, NoPadding, HoldsPackets, NoDatagra
 use Rattle.datagram.specs.Feedback.{found_is_ccfb, octets_are_ccfb, feedback_of, feedback_in}
 use Rattle.datagram.specs.Walk.{packet_at_of, packet_part, Parsed, packets, broken, in_front, packet_end, packets_from, packets_of}
 use Rattle.datagram.specs.declared.RtcpPacket.{RtcpPacket}
-use Rattle.datagram.specs.declared.PacketStep.TheVariants.{Packet, End, Broken}
+use Rattle.std.specs.Prelude.{Some, None, Ok, Err}
+use Rattle.refusal.specs.declared.Refusal.TheVariants.{BadDatagram}
 use Rattle.datagram.proofs.Steps.{PacketBefore, front_packet, front_none, found, found_before, fault_octets, step_end}
 use Rattle.datagram.proofs.Walks.{walk_packet, walk_end, walk_broken, walk_ind}
 
@@ -60,15 +61,15 @@ module _ (s : List ℕ) (at : ℕ) (p rest : List ℕ) (here : p ++ rest ≡ dro
   drop_behind = sym (drop-drop (length p) at s) ∙ rw (← here) (drop-append_seam p rest)
 
   module _ (before : PacketBefore p rest) where
-    pub step_packet : Packet (placed_at at p) ≡ packet_at_of s at
+    pub step_packet : Ok (Some (placed_at at p)) ≡ packet_at_of s at
     unfolding packet_at_of
     step_packet = rw (← here) (front_packet p rest at before)
 
     walk_first : packets_from s at ≡ in_front (placed_at at p) (packets_from s (at + length p))
-    walk_first = walk_packet s at (Packet (placed_at at p)) step_packet (placed_at at p) refl
+    walk_first = walk_packet s at (Ok (Some (placed_at at p))) step_packet (placed_at at p) refl
 
 -- what the walk gives at an offset is a packet, where it says
-pub step_is : (s : List ℕ) (at : ℕ) (b : RtcpPacket) → packet_at_of s at ≡ Packet b → IsPacket (packet_part s b) × (placed_at at (packet_part s b) ≡ b)
+pub step_is : (s : List ℕ) (at : ℕ) (b : RtcpPacket) → packet_at_of s at ≡ Ok (Some b) → IsPacket (packet_part s b) × (placed_at at (packet_part s b) ≡ b)
 step_is s at b f =
     let size : ℕ = length_of (drop at s) in
     let p : List ℕ = take size (drop at s) in
@@ -91,7 +92,7 @@ octets_from s at (p ∷ ps) e =
 -- the walk finds them
 held_from : (s : List ℕ) (at : ℕ) (ps : List (List ℕ)) → HoldsPackets (drop at s) ps → packets_from s at ≡ packets (placed at ps)
 unfolding flatten placed
-held_from s at [] h = walk_end s at End (step_end s at (omega (arith, length-drop at s, ap length h.joined))) refl
+held_from s at [] h = walk_end s at (Ok None) (step_end s at (omega (arith, length-drop at s, ap length h.joined))) refl
 held_from s at (p ∷ ps) h =
     let f = holds_first p (drop at s) ps h in
     walk_first s at p (flatten ps) h.joined f.0
@@ -101,7 +102,7 @@ held_from s at (p ∷ ps) h =
 fault_from : (s : List ℕ) (at : ℕ) (ps : List (List ℕ)) (rest : List ℕ) → flatten ps ++ rest ≡ drop at s → All IsPacket ps → All NoPadding ps
     → NoPacketIn rest → packets_from s at ≡ broken
 unfolding flatten packet_at_of
-fault_from s at [] rest e i n f = walk_broken s at Broken (rw (← e) (front_none rest at f)) refl
+fault_from s at [] rest e i n f = walk_broken s at (Err BadDatagram) (rw (← e) (front_none rest at f)) BadDatagram refl
 fault_from s at (p ∷ ps) rest e i n f =
     let here : p ++ (flatten ps ++ rest) ≡ drop at s = sym (append_assoc p (flatten ps) rest) ∙ e in
     walk_first s at p (flatten ps ++ rest) here (record { packet = i.0; padding = λ l. n.0 })
@@ -134,7 +135,7 @@ reads_fault s at n = record { before = []; rest = drop at s; joined = refl; each
 reads : (s : List ℕ) (at : ℕ) → Reads s at (packets_from s at)
 reads s = walk_ind s (Reads s) (reads_end s) (reads_fault s) at_packet
   where
-    at_packet : (at : ℕ) (b : RtcpPacket) (w : Parsed) → packet_at_of s at ≡ Packet b → Reads s (packet_end b) w → Reads s at (in_front b w)
+    at_packet : (at : ℕ) (b : RtcpPacket) (w : Parsed) → packet_at_of s at ≡ Ok (Some b) → Reads s (packet_end b) w → Reads s at (in_front b w)
     at_packet at b w f h =
         let size : ℕ = length_of (drop at s) in
         let p : List ℕ = take size (drop at s) in

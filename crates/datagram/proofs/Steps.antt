@@ -14,23 +14,24 @@ use Rattle.packet_header.specs.Header.{differ, version_of, padding_of, length_of
 use Rattle.datagram.specs.Walk.{packet_here, padded_inside, front_of, packet_at_of, packet_end}
 use Rattle.datagram.specs.Datagram.{rtcp_header_octets, IsPacket, NoPadding, NoPacketIn, placed_at}
 use Rattle.datagram.specs.declared.RtcpPacket.{RtcpPacket}
-use Rattle.datagram.specs.declared.PacketStep.{PacketStep}
-use Rattle.datagram.specs.declared.PacketStep.TheVariants.{Packet, End, Broken}
+use Rattle.std.specs.Prelude.{Option, Result, Some, None, Ok, Err}
+use Rattle.refusal.specs.declared.Refusal.{Refusal}
+use Rattle.refusal.specs.declared.Refusal.TheVariants.{BadDatagram}
 
 module _ (rest : List ℕ) (at : ℕ) where
-  pub front_end : length rest ≡ 0 → End ≡ front_of rest at
+  pub front_end : length rest ≡ 0 → Ok None ≡ front_of rest at
   front_end h = simp (eq-eqb (length rest) 0 h)
 
-  pub front_few : 0 < length rest → length rest < rtcp_header_octets → Broken ≡ front_of rest at
+  pub front_few : 0 < length rest → length rest < rtcp_header_octets → Err BadDatagram ≡ front_of rest at
   front_few h f = simp (ne_eqb (length rest) 0 (λ e. omega arith), lt-ltb (length rest) rtcp_header_octets f)
 
   module _ (header : rtcp_header_octets ≤ length rest) where
-    pub front_version : (version_of rest ≡ 2 → ⊥) → Broken ≡ front_of rest at
+    pub front_version : (version_of rest ≡ 2 → ⊥) → Err BadDatagram ≡ front_of rest at
     front_version h =
         simp (ne_eqb (length rest) 0 (λ e. omega arith), le-ltb (length rest) rtcp_header_octets header, ne_eqb (version_of rest) 2 h)
 
     module _ (version : version_of rest ≡ 2) where
-      pub front_past : length rest < length_of rest → Broken ≡ front_of rest at
+      pub front_past : length rest < length_of rest → Err BadDatagram ≡ front_of rest at
       front_past h =
           simp (
             ne_eqb (length rest) 0 (λ e. omega arith),
@@ -40,7 +41,7 @@ module _ (rest : List ℕ) (at : ℕ) where
           )
 
       module _ (fits : length_of rest ≤ length rest) where
-        front_fits : front_of rest at ≡ cond (padded_inside rest) Broken (Packet (packet_here rest at))
+        front_fits : front_of rest at ≡ cond (padded_inside rest) (Err BadDatagram) (Ok (Some (packet_here rest at)))
         front_fits =
             simp (
               ne_eqb (length rest) 0 (λ e. omega arith),
@@ -49,17 +50,17 @@ module _ (rest : List ℕ) (at : ℕ) where
               le-ltb (length rest) (length_of rest) fits,
             )
 
-        pub front_padded : length_of rest < length rest → (padding_of rest ≡ 0 → ⊥) → Broken ≡ front_of rest at
+        pub front_padded : length_of rest < length rest → (padding_of rest ≡ 0 → ⊥) → Err BadDatagram ≡ front_of rest at
         front_padded h p = rw front_fits (simp (lt-ltb (length_of rest) (length rest) h, ne_eqb (padding_of rest) 0 p))
 
-        pub front_unpadded : padding_of rest ≡ 0 → Packet (packet_here rest at) ≡ front_of rest at
+        pub front_unpadded : padding_of rest ≡ 0 → Ok (Some (packet_here rest at)) ≡ front_of rest at
         front_unpadded p = rw front_fits (by_length (ltb (length_of rest) (length rest)))
           where
-            by_length : (b : Bool) → Packet (packet_here rest at) ≡ cond (b && differ (padding_of rest) 0) Broken (Packet (packet_here rest at))
+            by_length : (b : Bool) → Ok (Some (packet_here rest at)) ≡ cond (b && differ (padding_of rest) 0) (Err BadDatagram) (Ok (Some (packet_here rest at)))
             by_length true = simp (eq-eqb (padding_of rest) 0 p)
             by_length false = refl
 
-        pub front_last : length_of rest ≡ length rest → Packet (packet_here rest at) ≡ front_of rest at
+        pub front_last : length_of rest ≡ length rest → Ok (Some (packet_here rest at)) ≡ front_of rest at
         front_last h = rw front_fits (simp (le-ltb (length_of rest) (length rest) (omega arith)))
 
 -- all that holds where a packet stands in front
@@ -70,8 +71,8 @@ pub record FoundPacket (rest : List ℕ) : Type 0 where
   pub padding : length_of rest < length rest → padding_of rest ≡ 0
 
 -- what stands in front, by cases
-pub front_cases : (P : PacketStep → Type 0) (rest : List ℕ) (at : ℕ) → (length rest ≡ 0 → P End) → (NoPacketIn rest → P Broken)
-    → (FoundPacket rest → P (Packet (packet_here rest at)))
+pub front_cases : (P : Result (Option RtcpPacket) Refusal → Type 0) (rest : List ℕ) (at : ℕ) → (length rest ≡ 0 → P (Ok None)) → (NoPacketIn rest → P (Err BadDatagram))
+    → (FoundPacket rest → P (Ok (Some (packet_here rest at))))
     → P (front_of rest at)
 front_cases P rest at end none packet =
     split_le rtcp_header_octets (length rest)
@@ -106,7 +107,7 @@ module _ (p rest : List ℕ) (header : rtcp_header_octets ≤ length p) where
   front_length = rw (front16 p rest 2 (omega arith))
 
 -- such a packet is found
-pub front_packet : (p rest : List ℕ) (at : ℕ) → PacketBefore p rest → Packet (placed_at at p) ≡ front_of (p ++ rest) at
+pub front_packet : (p rest : List ℕ) (at : ℕ) → PacketBefore p rest → Ok (Some (placed_at at p)) ≡ front_of (p ++ rest) at
 front_packet p rest at b =
     let h : rtcp_header_octets ≤ length p = b.packet.header in
     let o : get_or (p ++ rest) 0 0 ≡ get_or p 0 0 = front_octet p rest h 0 (omega arith) in
@@ -114,8 +115,8 @@ front_packet p rest at b =
     let l : length (p ++ rest) ≡ length p + length rest = length-append p rest in
     let same : placed_at at p ≡ packet_here (p ++ rest) at = rw (o, front_octet p rest h 1 (omega arith), w) in
     let v : version_of (p ++ rest) ≡ 2 = rw o b.packet.version in
-    split_eq (length rest) 0 (λ e. ap Packet same ∙ front_last (p ++ rest) at (omega arith) v (omega arith) (omega arith))
-    (λ n. ap Packet same ∙ front_unpadded (p ++ rest) at (omega arith) v (omega arith) (rw o (b.padding (omega arith))))
+    split_eq (length rest) 0 (λ e. ap (λ (x : RtcpPacket). Ok (Some x)) same ∙ front_last (p ++ rest) at (omega arith) v (omega arith) (omega arith))
+    (λ n. ap (λ (x : RtcpPacket). Ok (Some x)) same ∙ front_unpadded (p ++ rest) at (omega arith) v (omega arith) (rw o (b.padding (omega arith))))
 
 -- what is found is such a packet
 pub found_before : (rest : List ℕ) → FoundPacket rest → PacketBefore (take (length_of rest) rest) (drop (length_of rest) rest)
@@ -144,37 +145,41 @@ found_no_fault (NoPacketIn.other_version h v) f = v f.version
 found_no_fault (NoPacketIn.past_the_end h l) f = omega arith
 found_no_fault (NoPacketIn.padded_early h l p) f = p (f.padding l)
 
-pub front_none : (rest : List ℕ) (at : ℕ) → NoPacketIn rest → Broken ≡ front_of rest at
+pub front_none : (rest : List ℕ) (at : ℕ) → NoPacketIn rest → Err BadDatagram ≡ front_of rest at
 front_none rest at n =
-    front_cases (λ k. Broken ≡ k) rest at (λ e. absurd (omega (arith, fault_octets n))) (λ m. refl) (λ f. absurd (found_no_fault n f))
+    front_cases (λ k. Err BadDatagram ≡ k) rest at (λ e. absurd (omega (arith, fault_octets n))) (λ m. refl) (λ f. absurd (found_no_fault n f))
 
 -- ---- at an offset
 
 module _ (s : List ℕ) (at : ℕ) where
-  pub step_cases : (P : PacketStep → Type 0) → (length s ≤ at → P End) → (NoPacketIn (drop at s) → P Broken)
-      → (FoundPacket (drop at s) → P (Packet (packet_here (drop at s) at)))
+  pub step_cases : (P : Result (Option RtcpPacket) Refusal → Type 0) → (length s ≤ at → P (Ok None)) → (NoPacketIn (drop at s) → P (Err BadDatagram))
+      → (FoundPacket (drop at s) → P (Ok (Some (packet_here (drop at s) at))))
       → P (packet_at_of s at)
   unfolding packet_at_of
   step_cases P end none packet = front_cases P (drop at s) at (λ e. end (omega (arith, length-drop at s))) none packet
 
-  pub step_end : length s ≤ at → End ≡ packet_at_of s at
+  pub step_end : length s ≤ at → Ok None ≡ packet_at_of s at
   unfolding packet_at_of
   step_end h = front_end (drop at s) at (omega (arith, length-drop at s))
 
-  pub step_none : NoPacketIn (drop at s) → Broken ≡ packet_at_of s at
+  pub step_none : NoPacketIn (drop at s) → Err BadDatagram ≡ packet_at_of s at
   unfolding packet_at_of
   step_none n = front_none (drop at s) at n
 
-  pub ended : packet_at_of s at ≡ End → length s ≤ at
-  ended = step_cases (λ k. k ≡ End → length s ≤ at) (λ h e. h) (λ n e. never (cc)) (λ f e. never (cc))
+  pub ended : packet_at_of s at ≡ Ok None → length s ≤ at
+  ended = step_cases (λ k. k ≡ Ok None → length s ≤ at) (λ h e. h) (λ n e. never (cc)) (λ f e. never (cc))
 
-  pub no_packet_lem : packet_at_of s at ≡ Broken → NoPacketIn (drop at s)
-  no_packet_lem = step_cases (λ k. k ≡ Broken → NoPacketIn (drop at s)) (λ h e. never (cc)) (λ n e. n) (λ f e. never (cc))
+  pub no_packet_lem : (x : Refusal) → packet_at_of s at ≡ Err x → NoPacketIn (drop at s)
+  no_packet_lem x = step_cases (λ k. k ≡ Err x → NoPacketIn (drop at s)) (λ h e. never (cc)) (λ n e. n) (λ f e. never (cc))
 
-  module _ (p : RtcpPacket) (e : packet_at_of s at ≡ Packet p) where
+  -- the walk has one refusal
+  pub bad_datagram_lem : (x : Refusal) → packet_at_of s at ≡ Err x → x ≡ BadDatagram
+  bad_datagram_lem x = step_cases (λ k. k ≡ Err x → x ≡ BadDatagram) (λ h e. never (cc)) (λ n e. cc) (λ f e. never (cc))
+
+  module _ (p : RtcpPacket) (e : packet_at_of s at ≡ Ok (Some p)) where
     pub found : FoundPacket (drop at s) × (p ≡ packet_here (drop at s) at)
     found =
-        step_cases (λ k. k ≡ Packet p → FoundPacket (drop at s) × (p ≡ packet_here (drop at s) at)) (λ h e. never (cc)) (λ n e. never (cc))
+        step_cases (λ k. k ≡ Ok (Some p) → FoundPacket (drop at s) × (p ≡ packet_here (drop at s) at)) (λ h e. never (cc)) (λ n e. never (cc))
         (λ f e. (f, cc)) e
 
     pub found_at : p.at ≡ at

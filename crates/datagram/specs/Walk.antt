@@ -9,8 +9,9 @@ use Rattle.packet.specs.Packet.{version}
 use Rattle.packet_header.specs.Header.{differ, version_of, padding_of, format_of, type_of, length_of}
 use Rattle.datagram.specs.Datagram.{rtcp_header_octets}
 use Rattle.datagram.specs.declared.RtcpPacket.{RtcpPacket}
-use Rattle.datagram.specs.declared.PacketStep.{PacketStep}
-use Rattle.datagram.specs.declared.PacketStep.TheVariants.{Packet, End, Broken}
+use Rattle.std.specs.Prelude.{Option, Result, Some, None, Ok, Err}
+use Rattle.refusal.specs.declared.Refusal.{Refusal}
+use Rattle.refusal.specs.declared.Refusal.TheVariants.{BadDatagram}
 
 -- ---- the packet at an offset
 
@@ -23,17 +24,17 @@ abbrev pub padded_inside : List ℕ → Bool
 padded_inside rest = ltb (length_of rest) (length rest) && differ (padding_of rest) 0
 
 -- what the octets from an offset on start with
-abbrev pub front_of : List ℕ → ℕ → PacketStep
+abbrev pub front_of : List ℕ → ℕ → Result (Option RtcpPacket) Refusal
 front_of rest at =
-    cond (eqb (length rest) 0) End
-    (cond (ltb (length rest) rtcp_header_octets) Broken
-    (cond (differ (version_of rest) version) Broken
-    (cond (ltb (length rest) (length_of rest)) Broken
-    (cond (padded_inside rest) Broken
-    (Packet (packet_here rest at))))))
+    cond (eqb (length rest) 0) (Ok None)
+    (cond (ltb (length rest) rtcp_header_octets) (Err BadDatagram)
+    (cond (differ (version_of rest) version) (Err BadDatagram)
+    (cond (ltb (length rest) (length_of rest)) (Err BadDatagram)
+    (cond (padded_inside rest) (Err BadDatagram)
+    (Ok (Some (packet_here rest at)))))))
 
 -- what stands at an offset of a datagram; at its length or beyond that is the end
-unfoldable pub packet_at_of : List ℕ → ℕ → PacketStep
+unfoldable pub packet_at_of : List ℕ → ℕ → Result (Option RtcpPacket) Refusal
 packet_at_of s at = front_of (drop at s) at
 
 -- the part of the datagram that is a packet
@@ -55,10 +56,10 @@ in_front p broken = broken
 abbrev pub packet_end : RtcpPacket → ℕ
 packet_end p = p.at + p.size
 
-abbrev pub onward : PacketStep → (ℕ → Parsed) → Parsed
-onward (Packet p) rest = in_front p (rest (packet_end p))
-onward End rest = packets []
-onward Broken rest = broken
+abbrev pub onward : Result (Option RtcpPacket) Refusal → (ℕ → Parsed) → Parsed
+onward (Ok (Some p)) rest = in_front p (rest (packet_end p))
+onward (Ok None) rest = packets []
+onward (Err e) rest = broken
 
 -- packet by packet, starting at an offset; n bounds the number of packets
 unfoldable pub walk : ℕ → List ℕ → ℕ → Parsed

@@ -13,11 +13,3 @@ pub struct RtcpPacket {
     pub at: usize,
     pub size: usize,
 }
-
-// What stands at an offset of a datagram: a packet, the end, or octets that are no packet.
-#[derive(Clone, Copy)]
-pub enum PacketStep {
-    Packet(RtcpPacket),
-    End,
-    Broken,
-}

@@ -1,12 +1,11 @@
 -- The steps of the code: what they find on the way to an answer. No statement for a caller needs these.
-use Rattle.std.specs.Prelude.{ℕ, ◌+◌, length}
+use Rattle.std.specs.Prelude.{ℕ, ◌+◌, length, Result, Ok, Err}
 use Rattle.datagram.specs.Walk.{Parsed, packets, broken}
 use Rattle.datagram.specs.Feedback.{feedback_of}
 use Rattle.refusal.specs.declared.Refusal.TheVariants.{BadDatagram}
-use Rattle.datagram_count.specs.declared.FeedbackCount.{FeedbackCount}
-use Rattle.datagram_count.specs.declared.FeedbackCount.TheVariants.{Packets, Refused}
+use Rattle.refusal.specs.declared.Refusal.{Refusal}
 
 -- n CCFB packets, and those of the walk
-abbrev pub counted : ℕ → Parsed → FeedbackCount
-counted n (packets ps) = Packets (n + length (feedback_of ps))
-counted n broken = Refused BadDatagram
+abbrev pub counted : ℕ → Parsed → Result ℕ Refusal
+counted n (packets ps) = Ok (n + length (feedback_of ps))
+counted n broken = Err BadDatagram

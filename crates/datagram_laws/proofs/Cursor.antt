@@ -11,14 +11,14 @@ use Rattle.ccfb_calls.specs.Called.{Called, refused_with}
 use Rattle.datagram.specs.Walk.{packet_at_of, packet_part, Parsed, packets, broken, in_front, packet_end, packets_from}
 use Rattle.datagram.specs.Datagram.{IsPacket, NoPadding, HoldsPackets, NoDatagram, NoPacketIn, DatagramFault, placed_at, placed}
 use Rattle.datagram.specs.declared.RtcpPacket.{RtcpPacket}
-use Rattle.datagram.specs.declared.PacketStep.{PacketStep}
-use Rattle.datagram.proofs.Steps.{step_end, step_none, found_within}
+use Rattle.std.specs.Prelude.{Option, Result, Some, None, Ok, Err}
+use Rattle.refusal.specs.declared.Refusal.{Refusal}
+use Rattle.datagram.proofs.Steps.{step_end, step_none, found_within, bad_datagram_lem}
 use Rattle.datagram.proofs.Walks.{walk_packet, walk_end, walk_broken, walk_ind}
 use Rattle.datagram.proofs.Rules.{drop_behind, step_packet, step_is, held_walked, walked_held, broken_none}
 use Rattle.ccfb_datagram.specs.Datagrams.{packet_given, packet_called}
 use Rattle.datagram_laws.specs.Cursor.{next_call, CallsGive}
 use Rattle.refusal.specs.declared.Refusal.TheVariants.{BadDatagram, NoPacket}
-use Rattle.datagram.specs.declared.PacketStep.TheVariants.{Packet, End, Broken}
 
 -- ---- what a call says of what stands at its offset
 
@@ -35,24 +35,28 @@ packet_same p q e =
         ∙ ap (λ (x : ℕ). made q.packet_type q.format x p.size) a
         ∙ ap (λ (x : ℕ). made q.packet_type q.format q.at x) z
 
+-- the only refusal of a step is that of octets that are no packet
+abbrev OnlyBroken : Result (Option RtcpPacket) Refusal → Type 0
+OnlyBroken k = (x : Refusal) → k ≡ Err x → x ≡ BadDatagram
+
 module _ (before : List ℕ) where
   answer_other : {P : Type 0} (c d : Called) → c ≡ d → (c.answer ≡ d.answer → ⊥) → P
   answer_other c d e n = absurd (n (ap (λ (x : Called). x.answer) e))
 
-  called_packet : (p : RtcpPacket) (k : PacketStep) → packet_called k before ≡ packet_given p → k ≡ Packet p
-  called_packet p (Packet q) e = ap Packet (packet_same q p e)
-  called_packet p End e = answer_other _ _ e (λ n. omega arith)
-  called_packet p Broken e = answer_other _ _ e (λ n. omega arith)
+  called_packet : (p : RtcpPacket) (k : Result (Option RtcpPacket) Refusal) → OnlyBroken k → packet_called k before ≡ packet_given p → k ≡ Ok (Some p)
+  called_packet p (Ok (Some q)) b e = ap (λ (x : RtcpPacket). Ok (Some x)) (packet_same q p e)
+  called_packet p (Ok None) b e = answer_other _ _ e (λ n. omega arith)
+  called_packet p (Err x) b e = answer_other _ _ (rw (b x refl) at e) (λ n. omega arith)
 
-  called_end : (k : PacketStep) → packet_called k before ≡ refused_with NoPacket before → k ≡ End
-  called_end (Packet q) e = answer_other _ _ e (λ n. omega arith)
-  called_end End e = refl
-  called_end Broken e = answer_other _ _ e (λ n. omega arith)
+  called_end : (k : Result (Option RtcpPacket) Refusal) → OnlyBroken k → packet_called k before ≡ refused_with NoPacket before → k ≡ Ok None
+  called_end (Ok (Some q)) b e = answer_other _ _ e (λ n. omega arith)
+  called_end (Ok None) b e = refl
+  called_end (Err x) b e = answer_other _ _ (rw (b x refl) at e) (λ n. omega arith)
 
-  called_broken : (k : PacketStep) → packet_called k before ≡ refused_with BadDatagram before → k ≡ Broken
-  called_broken (Packet q) e = answer_other _ _ e (λ n. omega arith)
-  called_broken End e = answer_other _ _ e (λ n. omega arith)
-  called_broken Broken e = refl
+  called_broken : (k : Result (Option RtcpPacket) Refusal) → OnlyBroken k → packet_called k before ≡ refused_with BadDatagram before → k ≡ Err BadDatagram
+  called_broken (Ok (Some q)) b e = answer_other _ _ e (λ n. omega arith)
+  called_broken (Ok None) b e = answer_other _ _ e (λ n. omega arith)
+  called_broken (Err x) b e = ap (λ (y : Refusal). Err y) (b x refl)
 
 -- ---- the calls find what the walk finds
 
@@ -61,7 +65,7 @@ module _ (s : List ℕ) where
   ByCalls at (packets bs) = CallsGive s NoPacket at bs
   ByCalls at broken = Unit {0}
 
-  calls_packet : (at : ℕ) (p : RtcpPacket) (w : Parsed) → packet_at_of s at ≡ Packet p → ByCalls (packet_end p) w → ByCalls at (in_front p w)
+  calls_packet : (at : ℕ) (p : RtcpPacket) (w : Parsed) → packet_at_of s at ≡ Ok (Some p) → ByCalls (packet_end p) w → ByCalls at (in_front p w)
   calls_packet at p (packets bs) e g = CallsGive.next {at = at} p (λ others. rw e) g
   calls_packet at p broken e g = tt
 
@@ -69,14 +73,14 @@ module _ (s : List ℕ) where
   by_calls = walk_ind s ByCalls (λ at l. CallsGive.end {at = at} (λ others. rw (← step_end s at l))) (λ at n. tt) calls_packet
 
   gives_walked : {at : ℕ} {bs : List RtcpPacket} → CallsGive s NoPacket at bs → packets_from s at ≡ packets bs
-  gives_walked (CallsGive.end {at} e) = walk_end s at (packet_at_of s at) refl (called_end (at ∷ []) (packet_at_of s at) (e []))
+  gives_walked (CallsGive.end {at} e) = walk_end s at (packet_at_of s at) refl (called_end (at ∷ []) (packet_at_of s at) (bad_datagram_lem s at) (e []))
   gives_walked (CallsGive.next {at} b e g) =
-      walk_packet s at (packet_at_of s at) refl b (called_packet (at ∷ []) b (packet_at_of s at) (e [])) ∙ ap (in_front b) (gives_walked g)
+      walk_packet s at (packet_at_of s at) refl b (called_packet (at ∷ []) b (packet_at_of s at) (bad_datagram_lem s at) (e [])) ∙ ap (in_front b) (gives_walked g)
 
   stops_broken : {at : ℕ} {bs : List RtcpPacket} → CallsGive s BadDatagram at bs → packets_from s at ≡ broken
-  stops_broken (CallsGive.end {at} e) = walk_broken s at (packet_at_of s at) refl (called_broken (at ∷ []) (packet_at_of s at) (e []))
+  stops_broken (CallsGive.end {at} e) = walk_broken s at (packet_at_of s at) refl BadDatagram (called_broken (at ∷ []) (packet_at_of s at) (bad_datagram_lem s at) (e []))
   stops_broken (CallsGive.next {at} b e g) =
-      walk_packet s at (packet_at_of s at) refl b (called_packet (at ∷ []) b (packet_at_of s at) (e [])) ∙ ap (in_front b) (stops_broken g)
+      walk_packet s at (packet_at_of s at) refl b (called_packet (at ∷ []) b (packet_at_of s at) (bad_datagram_lem s at) (e [])) ∙ ap (in_front b) (stops_broken g)
 
   -- packets without padding, and then a fault
   fault_from : (at : ℕ) (ps : List (List ℕ)) (rest : List ℕ) → flatten ps ++ rest ≡ drop at s → All IsPacket ps → All NoPadding ps
@@ -109,8 +113,8 @@ module _ (s : List ℕ) where
 
   -- what a call gives at any offset is a packet, at that offset and within the octets
   module _ (at : ℕ) (others : List ℕ) (p : RtcpPacket) (e : next_call s at others ≡ packet_given p) where
-    stands : packet_at_of s at ≡ Packet p
-    stands = called_packet (at ∷ others) p (packet_at_of s at) e
+    stands : packet_at_of s at ≡ Ok (Some p)
+    stands = called_packet (at ∷ others) p (packet_at_of s at) (bad_datagram_lem s at) e
 
     pub given_is : IsPacket (packet_part s p) × (placed_at at (packet_part s p) ≡ p)
     given_is = step_is s at p stands

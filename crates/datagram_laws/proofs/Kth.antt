@@ -22,7 +22,7 @@ use Rattle.datagram.specs.declared.RtcpPacket.{RtcpPacket}
 use Rattle.datagram.proofs.Rules.{held_walked, placed_count}
 use Rattle.datagram_reader.specs.Reading.{nth, located_feedback, accepted_as, read_feedback}
 use Rattle.refusal.specs.declared.Refusal.TheVariants.{NoPacket}
-use Rattle.datagram_reader.specs.declared.FeedbackAnswer.TheVariants.{Found, Refused}
+use Rattle.std.specs.Prelude.{Ok, Err}
 
 -- ---- CCFB packet k
 
@@ -92,11 +92,11 @@ placed_append at (p ∷ ps) qs =
     let e : at + length p + length (flatten ps) ≡ at + length (p ++ flatten ps) = omega (arith, length-append p (flatten ps)) in
     ap (λ r. placed_at at p ∷ r) (placed_append (at + length p) ps qs ∙ ap (λ (i : ℕ). placed (at + length p) ps ++ placed i qs) e)
 
-nth_there : (bs : List RtcpPacket) (b : RtcpPacket) (cs : List RtcpPacket) → nth (bs ++ b ∷ cs) (length bs) ≡ Found b
+nth_there : (bs : List RtcpPacket) (b : RtcpPacket) (cs : List RtcpPacket) → nth (bs ++ b ∷ cs) (length bs) ≡ Ok b
 nth_there [] b cs = refl
 nth_there (a ∷ bs) b cs = nth_there bs b cs
 
-nth_past : (bs : List RtcpPacket) (k : ℕ) → length bs ≤ k → nth bs k ≡ Refused NoPacket
+nth_past : (bs : List RtcpPacket) (k : ℕ) → length bs ≤ k → nth bs k ≡ Err NoPacket
 nth_past [] k l = refl
 nth_past (b ∷ bs) zero l = absurd (omega arith)
 nth_past (b ∷ bs) (suc k) l = nth_past bs k (omega arith)
@@ -105,7 +105,7 @@ nth_past (b ∷ bs) (suc k) l = nth_past bs k (omega arith)
 
 module _ (s : List ℕ) (ps : List (List ℕ)) (held : HoldsPackets s ps) (k : ℕ) where
   -- no packet k
-  pub read_past : length (feedback_in ps) ≤ k → read_feedback s k ≡ Refused NoPacket
+  pub read_past : length (feedback_in ps) ≤ k → read_feedback s k ≡ Err NoPacket
   read_past l = rw (held_walked s ps held, nth_past (feedback_of (placed 0 ps)) k (omega (arith, placed_count 0 ps)))
 
   module _ (p : List ℕ) (x : KthFeedback ps k p) where
@@ -126,7 +126,7 @@ module _ (s : List ℕ) (ps : List (List ℕ)) (held : HoldsPackets s ps) (k : �
         ap length joined ∙ length-append (flatten x.before) (p ++ flatten x.after) in
         omega (arith, length-append p (flatten x.after))
 
-    kth_located : located_feedback (packets_of s) k ≡ Found standing
+    kth_located : located_feedback (packets_of s) k ≡ Ok standing
     unfolding placed
     kth_located =
         let at = length (flatten x.before) in

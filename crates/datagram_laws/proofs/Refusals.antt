@@ -22,8 +22,8 @@ use Rattle.datagram.specs.Walk.{packet_at_of, packets_of}
 use Rattle.datagram.specs.Datagram.{IsPacket, NoPadding, HoldsPackets, NoDatagram, DatagramFault}
 use Rattle.datagram.specs.Feedback.{is_ccfb, octets_are_ccfb, feedback_in, KthFeedback}
 use Rattle.datagram.specs.declared.RtcpPacket.{RtcpPacket}
-use Rattle.datagram.specs.declared.PacketStep.{PacketStep}
-use Rattle.datagram.proofs.Steps.{front_none, step_end, ended, no_packet_lem}
+use Rattle.std.specs.Prelude.{Option, Result, Some, None, Ok, Err}
+use Rattle.datagram.proofs.Steps.{front_none, step_end, ended, no_packet_lem, bad_datagram_lem}
 use Rattle.datagram.proofs.Rules.{held_walked, held_cases, broken_fault, fault_broken, broken_none, none_broken, placed_count}
 use Rattle.datagram_count.specs.Count.{count_of}
 use Rattle.datagram_reader.specs.Reading.{accepted_as, read_feedback}
@@ -31,9 +31,6 @@ use Rattle.ccfb_datagram.specs.Datagrams.{packet_called}
 use Rattle.datagram_laws.specs.Refused.{CountGiven, FeedbackGiven, PacketGiven, feedback_numbers}
 use Rattle.datagram_laws.proofs.Kth.{Kth, there, past, kth, kth_all, kth_count, read_past, read_kth}
 use Rattle.refusal.specs.declared.Refusal.TheVariants.{PacketTooShort, Padded, BadDatagram, NoPacket}
-use Rattle.datagram.specs.declared.PacketStep.TheVariants.{Packet, End, Broken}
-use Rattle.datagram_count.specs.declared.FeedbackCount.TheVariants as count
-use Rattle.datagram_reader.specs.declared.FeedbackAnswer.TheVariants as answer
 use Rattle.packet_laws.specs.Refused as reading
 use Rattle.datagram_laws.specs.Refused as given
 
@@ -71,33 +68,33 @@ module _ (s : List ℕ) where
   -- ---- how many CCFB packets
 
   -- as many as there are among the packets of the datagram, whether or not the reader accepts them
-  pub counted : (ps : List (List ℕ)) → HoldsPackets s ps → count_of (packets_of s) ≡ count.Packets (length (feedback_in ps))
+  pub counted : (ps : List (List ℕ)) → HoldsPackets s ps → count_of (packets_of s) ≡ Ok (length (feedback_in ps))
   counted ps h = rw (held_walked s ps h, placed_count 0 ps)
 
-  pub counted_held : (n : ℕ) → count_of (packets_of s) ≡ count.Packets n → (ps : List (List ℕ)) × (HoldsPackets s ps × (n ≡ length (feedback_in ps)))
+  pub counted_held : (n : ℕ) → count_of (packets_of s) ≡ Ok n → (ps : List (List ℕ)) × (HoldsPackets s ps × (n ≡ length (feedback_in ps)))
   counted_held n e =
       held_cases s (λ ps h. (ps, (h, let z = counted ps h in cc))) (λ b. let z = rw b at e in never (cc))
 
   -- a refusal is given only if its condition holds
-  pub count_refused_given : (e : Refusal) → count_of (packets_of s) ≡ count.Refused e → CountGiven s e
+  pub count_refused_given : (e : Refusal) → count_of (packets_of s) ≡ Err e → CountGiven s e
   count_refused_given e r =
       held_cases s (λ ps h. let z = counted ps h in never (cc))
       (λ b. let z = rw b at r in let y : BadDatagram ≡ e = cc in subst (CountGiven s) y (given.CountGiven.bad_datagram (broken_none s b)))
 
   -- and it is given if it does
-  pub count_given_refused : (e : Refusal) → CountGiven s e → count_of (packets_of s) ≡ count.Refused e
+  pub count_given_refused : (e : Refusal) → CountGiven s e → count_of (packets_of s) ≡ Err e
   count_given_refused e (given.CountGiven.bad_datagram n) = rw (none_broken s n)
 
   -- ---- CCFB packet k
 
   -- a refusal is given only if its condition holds, and none before it
-  pub feedback_refused_given : (k : ℕ) (e : Refusal) → read_feedback s k ≡ answer.Refused e → FeedbackGiven s k e
+  pub feedback_refused_given : (k : ℕ) (e : Refusal) → read_feedback s k ≡ Err e → FeedbackGiven s k e
   feedback_refused_given k e r =
       held_cases s (λ ps h. by_kth ps h (kth ps k))
       (λ b. let z = rw b at r in let y : BadDatagram ≡ e = cc in subst (FeedbackGiven s k) y (given.FeedbackGiven.bad_datagram (broken_none s b)))
     where
       by_reader : (ps : List (List ℕ)) (h : HoldsPackets s ps) (p : List ℕ) (x : KthFeedback ps k p) (d : Decoded) → decode_packet p ≡ d
-          → (b : RtcpPacket) → accepted_as b d ≡ answer.Refused e → FeedbackGiven s k e
+          → (b : RtcpPacket) → accepted_as b d ≡ Err e → FeedbackGiven s k e
       by_reader ps h p x (packet q) f b z = never (cc)
       by_reader ps h p x (refused g) f b z =
           let y : g ≡ e = cc in
@@ -111,7 +108,7 @@ module _ (s : List ℕ) where
           subst (FeedbackGiven s k) y (given.no_packet ps h l)
 
   -- and it is given if it does
-  pub feedback_given_refused : (k : ℕ) (e : Refusal) → FeedbackGiven s k e → read_feedback s k ≡ answer.Refused e
+  pub feedback_given_refused : (k : ℕ) (e : Refusal) → FeedbackGiven s k e → read_feedback s k ≡ Err e
   feedback_given_refused k e (given.FeedbackGiven.bad_datagram n) = rw (none_broken s n)
   feedback_given_refused k e (given.no_packet ps h l) = read_past s ps h k l
   feedback_given_refused k e (given.reader ps p h x g) = read_kth s ps h k p x ∙ rw (given_refused p e g)
@@ -128,22 +125,22 @@ module _ (s : List ℕ) where
     last_kth : KthFeedback (ps ++ p ∷ []) (length (feedback_in ps)) p
     last_kth = record { before = ps; after = []; order = refl; ccfb = is; count = refl }
 
-    last_refused : (e : Refusal) → ReadingGiven p e → read_feedback s (length (feedback_in ps)) ≡ answer.Refused e
+    last_refused : (e : Refusal) → ReadingGiven p e → read_feedback s (length (feedback_in ps)) ≡ Err e
     last_refused e g = feedback_given_refused (length (feedback_in ps)) e (given.reader (ps ++ p ∷ []) p held last_kth g)
 
-    last_counted : count_of (packets_of s) ≡ count.Packets (length (feedback_in ps) + 1)
+    last_counted : count_of (packets_of s) ≡ Ok (length (feedback_in ps) + 1)
     unfolding kept last_kth
-    last_counted = counted (ps ++ p ∷ []) held ∙ ap count.Packets (kth_count (ps ++ p ∷ []) (length (feedback_in ps)) p last_kth)
+    last_counted = counted (ps ++ p ∷ []) held ∙ ap Ok (kth_count (ps ++ p ∷ []) (length (feedback_in ps)) p last_kth)
 
     pub padded_last : Long p → (NoPadding p → ⊥)
-        → (read_feedback s (length (feedback_in ps)) ≡ answer.Refused Padded) × (count_of (packets_of s) ≡ count.Packets (length (feedback_in ps) + 1))
+        → (read_feedback s (length (feedback_in ps)) ≡ Err Padded) × (count_of (packets_of s) ≡ Ok (length (feedback_in ps) + 1))
     padded_last l u =
         let i = kth_all (ps ++ p ∷ []) (length (feedback_in ps)) p last_kth IsPacket held.each in
         (last_refused Padded (reading.padded l i.version (typed (type_of p) (format_of p) is) i.words u), last_counted)
 
     -- with fewer than 12 octets it is refused with 21, whatever its padding flag
     pub short_last : (Long p → ⊥)
-        → (read_feedback s (length (feedback_in ps)) ≡ answer.Refused PacketTooShort) × (count_of (packets_of s) ≡ count.Packets (length (feedback_in ps) + 1))
+        → (read_feedback s (length (feedback_in ps)) ≡ Err PacketTooShort) × (count_of (packets_of s) ≡ Ok (length (feedback_in ps) + 1))
     short_last l = (last_refused PacketTooShort (reading.ReadingGiven.too_short_of l), last_counted)
 
   -- ---- the packet at an offset; `before` stood behind the pointers
@@ -153,10 +150,11 @@ module _ (s : List ℕ) where
     pub packet_refused_given : (e : Refusal) → (packet_called (packet_at_of s at) before).answer ≡ number_of e → PacketGiven s at e
     packet_refused_given e r = by_step (packet_at_of s at) refl r
       where
-        by_step : (k : PacketStep) → packet_at_of s at ≡ k → (packet_called k before).answer ≡ number_of e → PacketGiven s at e
-        by_step (Packet p) f h = not_zero e (sym h)
-        by_step End f h = subst (PacketGiven s at) (own_number NoPacket e h) (given.at_the_end (ended s at f))
-        by_step Broken f h = subst (PacketGiven s at) (own_number BadDatagram e h) (given.PacketGiven.bad_datagram (no_packet_lem s at f))
+        by_step : (k : Result (Option RtcpPacket) Refusal) → packet_at_of s at ≡ k → (packet_called k before).answer ≡ number_of e → PacketGiven s at e
+        by_step (Ok (Some p)) f h = not_zero e (sym h)
+        by_step (Ok None) f h = subst (PacketGiven s at) (own_number NoPacket e h) (given.at_the_end (ended s at f))
+        by_step (Err x) f h =
+            subst (PacketGiven s at) (sym (bad_datagram_lem s at x f) ∙ own_number x e h) (given.PacketGiven.bad_datagram (no_packet_lem s at x f))
 
     -- and it is answered if it does; nothing is written then
     pub packet_given_refused : (e : Refusal) → PacketGiven s at e → packet_called (packet_at_of s at) before ≡ refused_with e before

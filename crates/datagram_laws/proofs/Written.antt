@@ -36,9 +36,7 @@ use Rattle.datagram_laws.specs.Written.{Other, behind_front, EndsWritten, writte
 use Rattle.datagram_laws.proofs.Kth.{kth_octets, read_past}
 use Rattle.datagram_laws.proofs.Refusals.{counted}
 use Rattle.datagram_laws.proofs.Found.{found_feedback}
-use Rattle.sound_writer.specs.declared.Answer.TheVariants.{Written}
-use Rattle.datagram_count.specs.declared.FeedbackCount.TheVariants.{Packets}
-use Rattle.datagram_reader.specs.declared.FeedbackAnswer.TheVariants.{Found}
+use Rattle.std.specs.Prelude.{Ok}
 
 -- ---- walking the length fields leaves no octet out
 
@@ -116,11 +114,11 @@ module _ (front : List (List ℕ)) (written : List ℕ) (others : All Other fron
     place : length (flatten (front ++ before)) ≡ length (flatten front) + length (flatten before)
     place = ap length (flatten_append front before) ∙ length-append (flatten front) (flatten before)
 
-    found : read_feedback (behind_front front written) (length before) ≡ Found (placed_at (length (flatten front) + length (flatten before)) p)
+    found : read_feedback (behind_front front written) (length before) ≡ Ok (placed_at (length (flatten front) + length (flatten before)) p)
     unfolding kth_written
     found =
         found_feedback (behind_front front written) (length before) (front ++ packets_in written) p accepted_here.0 held kth_written accepted_here.1
-        ∙ ap (λ (at : ℕ). Found (placed_at at p)) place
+        ∙ ap (λ (at : ℕ). Ok (placed_at at p)) place
 
     stands : octets_at (behind_front front written) (length (flatten front) + length (flatten before)) (length p) ≡ p
     unfolding kth_written
@@ -146,7 +144,7 @@ module _ (places cells : List ℕ) (sender rts limit : ℕ) (rs : List Request) 
       record {
         held = holds;
         feedback = feedback front reported others accepts (packets_in reported) accepts;
-        count = counted (behind_front front reported) (front ++ packets_in reported) holds ∙ ap Packets size;
+        count = counted (behind_front front reported) (front ++ packets_in reported) holds ∙ ap Ok size;
         found = found front reported others accepts;
         past = λ k l. read_past (behind_front front reported) (front ++ packets_in reported) holds k (omega (arith, size));
       }
@@ -183,7 +181,7 @@ module _ (places cells : List ℕ) (sender rts limit n : ℕ) (rs : List Request
   abbrev output : List ℕ
   output = (written places cells sender rts limit n rs out).output
 
-  pub written_found : InBits sender rts rs → (p o : ℕ) → (written places cells sender rts limit n rs out).answer ≡ Written p o
+  pub written_found : InBits sender rts rs → (p o : ℕ) → (written places cells sender rts limit n rs out).answer ≡ Ok (record { packets = p; octets = o })
       → (front : List (List ℕ)) → All Other front
       → EndsWritten front (take o output) p × CallsFind front (take o output) p
   written_found bits p o accepted front others =

@@ -1,6 +1,6 @@
 -- Rules: "Datagram". What is proved where CCFB packet k of a datagram s is found: which packet it
 -- is, where it stands, and what the reader answers of it.
-use Rattle.std.specs.Prelude.{ℕ, ◌+◌, ◌≤◌, ◌≡◌, length}
+use Rattle.std.specs.Prelude.{ℕ, ◌+◌, ◌≤◌, ◌≡◌, length, Err}
 use mathlib.Core.List.{List, [], flatten}
 use Rattle.refusal.specs.Numbers.{number_of}
 use Rattle.refusal.specs.declared.Refusal.{Refusal}
@@ -14,7 +14,6 @@ use Rattle.datagram.specs.Datagram.{HoldsPackets, placed_at}
 use Rattle.datagram.specs.Feedback.{KthFeedback}
 use Rattle.datagram.specs.declared.RtcpPacket.{RtcpPacket}
 use Rattle.datagram_reader.specs.Reading.{read_feedback, feedback_part, feedback_refusal}
-use Rattle.datagram_reader.specs.declared.FeedbackAnswer.TheVariants as answer
 
 -- the packet that was found, b, is CCFB packet k of the packets that s holds; it starts behind
 -- those before it, and ends within s; the octets at its offset, as many as its size, are that
@@ -39,11 +38,11 @@ pub record ReadsAs (part octets : List ℕ) : Type 0 where
 
 -- what `ccfb_feedback` answers, and the offset and the length that it gives, belong to CCFB packet
 -- k: the octets there are the part that `feedback_part` returns, they lie within s, and the answer
--- is the number that it gives beside the part
+-- is the number of its refusal, or 0
 pub record PacketPlaced (s : List ℕ) (k given at size : ℕ) : Type 0 where
   pub part : octets_at s at size ≡ feedback_part (read_feedback s k) s
   pub octets : length (feedback_part (read_feedback s k) s) ≡ size
   pub within : at + size ≤ length s
   pub refusal : given ≡ feedback_refusal (read_feedback s k)
-  pub refused : (e : Refusal) → read_feedback s k ≡ answer.Refused e
+  pub refused : (e : Refusal) → read_feedback s k ≡ Err e
       → (given ≡ number_of e) × (at ≡ 0) × (size ≡ 0) × (feedback_part (read_feedback s k) s ≡ [])

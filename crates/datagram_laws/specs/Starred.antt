@@ -1,14 +1,12 @@
 -- Rules: "Cases at the edges". Those that are proved of datagrams, as one list.
-use Rattle.std.specs.Prelude.{ℕ, ◌≡◌, List, [], ◌∷◌, ◌++◌}
+use Rattle.std.specs.Prelude.{ℕ, ◌≡◌, List, [], ◌∷◌, ◌++◌, Result, Ok, Err}
 use Rattle.packet.specs.Packet.{packet_type_of, format}
 use Rattle.datagram.specs.Walk.{packets_of}
 use Rattle.datagram_count.specs.Count.{count_of}
-use Rattle.datagram_count.specs.declared.FeedbackCount.{FeedbackCount}
+use Rattle.refusal.specs.declared.Refusal.{Refusal}
+use Rattle.datagram.specs.declared.RtcpPacket.{RtcpPacket}
 use Rattle.datagram_reader.specs.Reading.{read_feedback}
-use Rattle.datagram_reader.specs.declared.FeedbackAnswer.{FeedbackAnswer}
 use Rattle.refusal.specs.declared.Refusal.TheVariants.{BadDatagram, NoPacket, Padded}
-use Rattle.datagram_count.specs.declared.FeedbackCount.TheVariants as count
-use Rattle.datagram_reader.specs.declared.FeedbackAnswer.TheVariants as answer
 
 -- a CCFB packet without a block; the same with the padding flag; a generic NACK; a BYE of 4 octets
 unfoldable pub ccfb : List ℕ
@@ -40,35 +38,35 @@ cut = 0x80 ∷ 203 ∷ 0 ∷ []
 -- octets, how many CCFB packets they hold, and CCFB packet 0
 pub record Case : Type 0 where
   pub octets : List ℕ
-  pub feedback : FeedbackCount
-  pub first : FeedbackAnswer
+  pub feedback : Result ℕ Refusal
+  pub first : Result RtcpPacket Refusal
 
 abbrev pub CaseHolds : Case → Type 0
 CaseHolds c = (count_of (packets_of c.octets) ≡ c.feedback) × (read_feedback c.octets 0 ≡ c.first)
 
-abbrev pub case : List ℕ → FeedbackCount → FeedbackAnswer → Case
+abbrev pub case : List ℕ → Result ℕ Refusal → Result RtcpPacket Refusal → Case
 case s n p = record { octets = s; feedback = n; first = p }
 
 abbrev pub refused : List ℕ → Case
-refused s = case s (count.Refused BadDatagram) (answer.Refused BadDatagram)
+refused s = case s (Err BadDatagram) (Err BadDatagram)
 
 -- CCFB packet 0 is the 12 octets at an offset
-abbrev pub found_at : ℕ → FeedbackAnswer
-found_at at = answer.Found (record { packet_type = packet_type_of; format = format; at = at; size = 12 })
+abbrev pub found_at : ℕ → Result RtcpPacket Refusal
+found_at at = Ok (record { packet_type = packet_type_of; format = format; at = at; size = 12 })
 
 unfoldable pub cases : List Case
 cases =
-    case [] (count.Packets 0) (answer.Refused NoPacket)
-    ∷ case bye (count.Packets 0) (answer.Refused NoPacket)
+    case [] (Ok 0) (Err NoPacket)
+    ∷ case bye (Ok 0) (Err NoPacket)
     ∷ refused cut
     ∷ refused (bye ++ cut)
     ∷ refused (bye ++ old_version)
     ∷ refused (bye ++ too_long)
-    ∷ case other (count.Packets 0) (answer.Refused NoPacket)
-    ∷ case (bye ++ ccfb) (count.Packets 1) (found_at 4)
-    ∷ case (nack ++ ccfb) (count.Packets 1) (found_at 16)
-    ∷ case padded (count.Packets 1) (answer.Refused Padded)
-    ∷ case (ccfb ++ padded) (count.Packets 2) (found_at 0)
+    ∷ case other (Ok 0) (Err NoPacket)
+    ∷ case (bye ++ ccfb) (Ok 1) (found_at 4)
+    ∷ case (nack ++ ccfb) (Ok 1) (found_at 16)
+    ∷ case padded (Ok 1) (Err Padded)
+    ∷ case (ccfb ++ padded) (Ok 2) (found_at 0)
     ∷ refused (padded ++ ccfb)
     ∷ refused (ccfb ++ cut)
     ∷ []

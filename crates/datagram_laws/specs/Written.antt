@@ -1,6 +1,6 @@
 -- Rules: "Datagram", rule "Written packets". What is proved of a datagram that the writer's packets
 -- end: other packets in front, which may be none, and then what was written.
-use Rattle.std.specs.Prelude.{ℕ, ◌+◌, ◌≤◌, ◌<◌, ◌≡◌, false, length, take, get_or}
+use Rattle.std.specs.Prelude.{ℕ, ◌+◌, ◌≤◌, ◌<◌, ◌≡◌, false, length, take, get_or, Ok, Err}
 use mathlib.Core.List.{List, [], ◌∷◌, ◌++◌, flatten}
 use Rattle.refusal.specs.Numbers.{number_of}
 use Rattle.writer_laws.specs.Read.{packets_in}
@@ -8,9 +8,7 @@ use Rattle.datagram.specs.Walk.{packets_of}
 use Rattle.datagram.specs.Datagram.{IsPacket, NoPadding, HoldsPackets, placed_at}
 use Rattle.datagram.specs.Feedback.{octets_are_ccfb, feedback_in}
 use Rattle.datagram_count.specs.Count.{count_of}
-use Rattle.datagram_count.specs.declared.FeedbackCount.TheVariants.{Packets}
 use Rattle.datagram_reader.specs.Reading.{read_feedback}
-use Rattle.datagram_reader.specs.declared.FeedbackAnswer.TheVariants.{Found, Refused}
 use Rattle.refusal.specs.declared.Refusal.TheVariants.{NoPacket}
 use Rattle.ccfb_calls.specs.Called.{called}
 use Rattle.ccfb_datagram.specs.Datagrams.{count_called, feedback_called}
@@ -33,12 +31,12 @@ pub record EndsWritten (front : List (List ℕ)) (written : List ℕ) (n : ℕ) 
   -- its CCFB packets are the written packets in their order
   pub feedback : feedback_in (front ++ packets_in written) ≡ packets_in written
   -- they are as many as the writer answered
-  pub count : count_of (packets_of (behind_front front written)) ≡ Packets n
+  pub count : count_of (packets_of (behind_front front written)) ≡ Ok n
   -- each is found, at its place
   pub found : (before : List (List ℕ)) (p : List ℕ) (after : List (List ℕ)) → packets_in written ≡ before ++ p ∷ after
-      → read_feedback (behind_front front written) (length before) ≡ Found (placed_at (length (flatten front) + length (flatten before)) p)
+      → read_feedback (behind_front front written) (length before) ≡ Ok (placed_at (length (flatten front) + length (flatten before)) p)
   -- and no other
-  pub past : (k : ℕ) → n ≤ k → read_feedback (behind_front front written) k ≡ Refused NoPacket
+  pub past : (k : ℕ) → n ≤ k → read_feedback (behind_front front written) k ≡ Err NoPacket
 
 -- ---- the same of the calls, by their contracts
 

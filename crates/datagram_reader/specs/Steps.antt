@@ -2,10 +2,10 @@
 use Rattle.datagram.specs.Walk.{Parsed, packets, broken}
 use Rattle.datagram.specs.declared.RtcpPacket.{RtcpPacket}
 use Rattle.refusal.specs.declared.Refusal.TheVariants.{BadDatagram}
-use Rattle.datagram_reader.specs.declared.FeedbackAnswer.{FeedbackAnswer}
-use Rattle.datagram_reader.specs.declared.FeedbackAnswer.TheVariants.{Found, Refused}
+use Rattle.std.specs.Prelude.{Result, Ok, Err}
+use Rattle.refusal.specs.declared.Refusal.{Refusal}
 
 -- a packet that was found, if the walk behind it is not broken
-abbrev pub found_before_of : RtcpPacket → Parsed → FeedbackAnswer
-found_before_of p (packets ps) = Found p
-found_before_of p broken = Refused BadDatagram
+abbrev pub found_before_of : RtcpPacket → Parsed → Result RtcpPacket Refusal
+found_before_of p (packets ps) = Ok p
+found_before_of p broken = Err BadDatagram

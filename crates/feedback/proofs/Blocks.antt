@@ -19,7 +19,7 @@ use Rattle.cutting.proofs.Requests.{length_numbers}
 use Rattle.writer_laws.specs.Read.{request_of, block_read, blocks_read, cutting_read}
 use Rattle.feedback.specs.Seen.{OfNumbers}
 use Rattle.feedback.proofs.Ranges.{Each, OfRequests, each_of_cutting}
-use Rattle.block_reader.specs.declared.BlockAnswer.TheVariants as answer
+use Rattle.std.specs.Prelude.{Ok}
 
 -- number j of a range
 number_at : (begin count j : ℕ) → begin < 65536 → j < count → get_or (numbers_from begin count) j 0 ≡ (begin + j) % 65536
@@ -64,11 +64,11 @@ both P Q (x ∷ xs) h g = ((h.0, g.0), both P Q xs h.1 g.1)
 
 -- a block that the reader finds is a block of its packet
 found_block : (Q : CutBlock → Type 0) (rs : List Request) (w : Walked) (k : ℕ) (b : ReportBlock)
-    → All Q (blocks_read rs w) → located w k ≡ answer.Found b → Q (block_read rs b)
+    → All Q (blocks_read rs w) → located w k ≡ Ok b → Q (block_read rs b)
 found_block Q rs (stopped e) k b h f = never (cc)
 found_block Q rs (walked bs) k b h f = in_list bs k h f
   where
-    in_list : (bs : List ReportBlock) (k : ℕ) → All Q (map (block_read rs) bs) → nth bs k ≡ answer.Found b → Q (block_read rs b)
+    in_list : (bs : List ReportBlock) (k : ℕ) → All Q (map (block_read rs) bs) → nth bs k ≡ Ok b → Q (block_read rs b)
     in_list [] k h f = never (cc)
     in_list (x ∷ bs) zero h f = let e : x ≡ b = cc in subst (λ (y : ReportBlock). Q (block_read rs y)) e h.0
     in_list (x ∷ bs) (suc k) h f = in_list bs k h.1 f

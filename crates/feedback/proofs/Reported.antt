@@ -1,17 +1,20 @@
 -- What a reader of the written octets is told of each number, in the words of the rules. Assumes nothing.
 use Prim.Native.Nat.{ℕ, ◌+◌, ◌%◌}
-use mathlib.Core.Path.{◌≡◌, sym, ap, ◌∙◌}
+use mathlib.Core.Path.{◌≡◌, refl, sym, ap, ◌∙◌}
 use mathlib.Core.List.{List}
 use lib.ListN.{take}
 use Rattle.lists.specs.All.{All}
 use Rattle.lists.proofs.All.{all_zip}
 use Rattle.metric.specs.declared.Metric.{Metric}
+use Rattle.std.proofs.lemmas.Result.{IfOk-at_ok}
 use Rattle.window.specs.Number.{sequence_numbers}
 use Rattle.streams.specs.Reading.{Store, Fresh}
 use Rattle.history.specs.Calls.{Call, CallInRange, store_run, Accepted}
 use Rattle.history.specs.Meaning.{top_of, entries_of, EntryInRange}
 use Rattle.history.proofs.ByHistory.{entries_in_range}
-use Rattle.reports.specs.declared.MetricAnswer.{MetricAnswer}
+use Rattle.std.specs.Prelude.{Result, Ok}
+use Rattle.reports.specs.declared.Reported.{Reported}
+use Rattle.refusal.specs.declared.Refusal.{Refusal}
 use Rattle.cutting.specs.declared.Request.{Request}
 use Rattle.writer.specs.Written.{written}
 use Rattle.writer_laws.specs.Read.{InBits, packets_in}
@@ -20,12 +23,10 @@ use Rattle.feedback.specs.Reported.{Says, AsArrived, ReportedAsArrived}
 use Rattle.feedback.proofs.Says.{says_seen, says_only, none_had, not_received_lem}
 use Rattle.feedback.proofs.Theorem.{feedback}
 use Rattle.metric.specs.declared.Metric.TheVariants.{NotReceived}
-use Rattle.reports.specs.declared.MetricAnswer.TheVariants as asked
-use Rattle.sound_writer.specs.declared.Answer.TheVariants.{Written}
 
 -- an answer with what is seen of the cell is the answer of the rules
-as_arrived : (history : List Accepted) (rts s : ℕ) (given : MetricAnswer) → All EntryInRange (entries_of history)
-    → StandsFor (top_of history) s (full_number (top_of history) s) → given ≡ asked.Reported s (seen_by history rts s)
+as_arrived : (history : List Accepted) (rts s : ℕ) (given : Result Reported Refusal) → All EntryInRange (entries_of history)
+    → StandsFor (top_of history) s (full_number (top_of history) s) → given ≡ Ok (record { number = s; metric = seen_by history rts s })
     → AsArrived history rts s given
 as_arrived history rts s given range stands e =
     let n : ℕ = full_number (top_of history) s in
@@ -38,12 +39,12 @@ as_arrived history rts s given range stands e =
       says = says;
       not_received = (
         λ g. none_had (entries_of history) n rts (seen_by history rts s) says (same s (seen_by history rts s) NotReceived e g),
-        λ none. e ∙ ap (asked.Reported s) (not_received_lem (entries_of history) n rts (seen_by history rts s) says none),
+        λ none. e ∙ ap (λ (m : Metric). Ok (record { number = s; metric = m })) (not_received_lem (entries_of history) n rts (seen_by history rts s) says none),
       );
     }
   where
-    same : (s : ℕ) (m m' : Metric) → given ≡ asked.Reported s m → given ≡ asked.Reported s m' → m ≡ m'
-    same s m m' e g = cc
+    same : (s : ℕ) (m m' : Metric) → given ≡ Ok (record { number = s; metric = m }) → given ≡ Ok (record { number = s; metric = m' }) → m ≡ m'
+    same s m m' e g = IfOk-at_ok (λ (r : Reported). m ≡ r.metric) (sym e ∙ g) refl
 
 module _ (st : Store) (new : Fresh st) (cs : List Call) (range : All CallInRange cs) where
   -- the accepted arrivals of a stream say one case of a full number at RTS
@@ -53,7 +54,7 @@ module _ (st : Store) (new : Fresh st) (cs : List Call) (range : All CallInRange
       sym (says_only (entries_of (history_of st cs ssrc)) n rts es m a) ∙ says_only (entries_of (history_of st cs ssrc)) n rts es m' b
 
   module _ (sender rts limit n : ℕ) (rs : List Request) (out : List ℕ) (bits : InBits sender rts rs) (p o : ℕ)
-      (e : (written (store_run st cs).places (store_run st cs).cells sender rts limit n rs out).answer ≡ Written p o) where
+      (e : (written (store_run st cs).places (store_run st cs).cells sender rts limit n rs out).answer ≡ Ok (record { packets = p; octets = o })) where
     abbrev output : List ℕ
     output = (written (store_run st cs).places (store_run st cs).cells sender rts limit n rs out).output
 

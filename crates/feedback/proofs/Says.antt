@@ -13,14 +13,12 @@ use Rattle.lists.specs.All.{All}
 use Rattle.lists.proofs.All.{all_right}
 use Rattle.lists.proofs.Cases.{never, split_le}
 use Rattle.metric.specs.Metric.{age_of, longest_age, offset_unit, after_rts, congested, seen_at_age, seen_of}
-use Rattle.metric.specs.declared.Time.{Time}
+use Rattle.std.specs.Prelude.{Option, Some, None}
 use Rattle.metric.specs.declared.Metric.{Metric}
 use Rattle.history.specs.Meaning.{Entry, copies_of, any_ce, cell_of, cell_by, EntryInRange}
 use Rattle.history.proofs.Copies.{copies_have, copies_are}
 use Rattle.history.proofs.Filled.{any_is, any_not}
 use Rattle.feedback.specs.Reported.{NoneHad, First, CarriedCE, MarkOf, carried, firsts, Says, missing, received, long_ago, afterwards, untimed}
-use Rattle.metric.specs.declared.Time.TheVariants.{Unknown, Known}
-use Rattle.metric.specs.declared.Cell.TheVariants.{Filled}
 use Rattle.metric.specs.declared.Metric.TheVariants.{NotReceived, Received, OverRange, NoTime}
 
 -- ---- the first copy
@@ -115,7 +113,7 @@ module _ (mark age : ℕ) where
 module _ (es : List Entry) (n rts : ℕ) where
   -- what is seen of a cell with the first copy's time and the mark of the rules
   module _ (e : Entry) (mark : ℕ) (f : First es n e) (k : MarkOf es n e mark) where
-    at_time : (t : ℕ) → e.time ≡ Known t → Says es n rts (seen_at_age mark (age_of rts t))
+    at_time : (t : ℕ) → e.time ≡ Some t → Says es n rts (seen_at_age mark (age_of rts t))
     at_time t q =
         split_le after_rts (age_of rts t)
         (λ l. rw (at_after mark (age_of rts t) l) (afterwards e t mark f k q (omega arith)))
@@ -123,9 +121,9 @@ module _ (es : List Entry) (n rts : ℕ) where
         (λ i. rw (at_offset mark (age_of rts t) i) (received e t mark f k q (omega arith)))
         (λ o. rw (at_long mark (age_of rts t) o l) (long_ago e t mark f k q (omega arith) (omega arith))))
 
-    at_cell : (time : Time) → e.time ≡ time → mark ≤ congested → Says es n rts (seen_of (Filled mark time) rts)
-    at_cell Unknown q b = let z : mark % 4 ≡ mark = omega arith in rw z (untimed e mark f k q)
-    at_cell (Known t) q b = let z : mark % 4 ≡ mark = omega arith in rw z (at_time t q)
+    at_cell : (time : Option ℕ) → e.time ≡ time → mark ≤ congested → Says es n rts (seen_of (Some (record { mark = mark; time = time })) rts)
+    at_cell None q b = let z : mark % 4 ≡ mark = omega arith in rw z (untimed e mark f k q)
+    at_cell (Some t) q b = let z : mark % 4 ≡ mark = omega arith in rw z (at_time t q)
 
   module _ (range : All EntryInRange es) where
     mark_low : (e : Entry) (mark : ℕ) → First es n e → MarkOf es n e mark → mark ≤ congested
@@ -144,12 +142,12 @@ module _ (es : List Entry) (n rts : ℕ) where
             at_cell e (cond (any_ce (e ∷ rest)) congested e.mark) f k e.time refl
             (mark_low e (cond (any_ce (e ∷ rest)) congested e.mark) f k)
 
-    cell_said : (e : Entry) (mark : ℕ) (time : Time) → First es n e → MarkOf es n e mark → e.time ≡ time
-        → (cell_by es n ≡ Filled mark time) × (mark % 4 ≡ mark)
+    cell_said : (e : Entry) (mark : ℕ) (time : Option ℕ) → First es n e → MarkOf es n e mark → e.time ≡ time
+        → (cell_by es n ≡ Some (record { mark = mark; time = time })) × (mark % 4 ≡ mark)
     cell_said e mark time f k q =
         let c = first_copies n es e f in
         let low = mark_low e mark f k in (
-          ap cell_of c.1 ∙ ap (λ (m : ℕ). Filled m e.time) (mark_is es n e c.0 c.1 mark k) ∙ ap (Filled mark) q,
+          ap cell_of c.1 ∙ ap (λ (m : ℕ). Some (record { mark = m; time = e.time })) (mark_is es n e c.0 c.1 mark k) ∙ ap (λ (t : Option ℕ). Some (record { mark = mark; time = t })) q,
           omega arith,
         )
 
@@ -161,16 +159,16 @@ module _ (es : List Entry) (n rts : ℕ) where
         by_copies [] q = refl
         by_copies (e ∷ rest) q = let a = copies_are n es e (rw q (Memᴰ.head refl)) in absurd (none e a.0 a.1)
     says_only m (received e t mark f k q l) =
-        let c = cell_said e mark (Known t) f k q in
+        let c = cell_said e mark (Some t) f k q in
         rw (c.0, c.1) (at_offset mark (age_of rts t) (omega arith))
     says_only m (long_ago e t mark f k q l h) =
-        let c = cell_said e mark (Known t) f k q in
+        let c = cell_said e mark (Some t) f k q in
         rw (c.0, c.1) (at_long mark (age_of rts t) (omega arith) (omega arith))
     says_only m (afterwards e t mark f k q l) =
-        let c = cell_said e mark (Known t) f k q in
+        let c = cell_said e mark (Some t) f k q in
         rw (c.0, c.1) (at_after mark (age_of rts t) (omega arith))
     says_only m (untimed e mark f k q) =
-        let c = cell_said e mark Unknown f k q in
+        let c = cell_said e mark None f k q in
         rw (c.0, c.1)
 
 -- ---- not received exactly if none had the number

@@ -1,13 +1,17 @@
 -- From any list of calls to a fresh store to what a reader of the written octets sees. Assumes nothing.
 use Prim.Native.Nat.{ℕ, zero, suc, ◌+◌, ◌%◌, ◌^◌, ◌<◌}
-use mathlib.Core.Path.{◌≡◌, ap, ◌∙◌}
+use mathlib.Core.Path.{◌≡◌, sym, ap, ◌∙◌}
 use mathlib.Core.List.{List, [], ◌∷◌, ◌++◌}
 use native.Mathlib.Omega.{arith}
 use lib.ListN.{take}
 use Rattle.lists.specs.All.{All}
 use Rattle.lists.proofs.All.{all_map}
 use Rattle.metric.specs.Metric.{seen_of}
-use Rattle.metric.specs.declared.Cell.{Cell}
+use Rattle.metric.specs.declared.Metric.{Metric}
+use Rattle.std.specs.Prelude.{Option, Some, Ok}
+use Rattle.std.proofs.lemmas.Option.{same_Some}
+use Rattle.places.specs.declared.Stream.{Stream}
+use Rattle.metric.specs.declared.Arrived.{Arrived}
 use Rattle.window.specs.Number.{sequence_numbers, distance_of}
 use Rattle.ring.specs.Ring.{cells_of_a_place}
 use Rattle.places.specs.Place.{find_of, place_at}
@@ -30,10 +34,6 @@ use Rattle.feedback.specs.Seen.{full_number, StandsFor, seen_by, OfNumbers, Seen
 use Rattle.feedback.proofs.Window.{full_number_lem, cell_in_window, range_in_window}
 use Rattle.feedback.proofs.Ranges.{OfRequests}
 use Rattle.feedback.proofs.Blocks.{each_told}
-use Rattle.lists.specs.declared.Found.TheVariants.{At}
-use Rattle.places.specs.declared.Holding.TheVariants.{Held}
-use Rattle.reports.specs.declared.MetricAnswer.TheVariants as asked
-use Rattle.sound_writer.specs.declared.Answer.TheVariants.{Written}
 
 module _ (st : Store) (new : Fresh st) (cs : List Call) (range : All CallInRange cs) where
   abbrev places : List ℕ
@@ -53,7 +53,7 @@ module _ (st : Store) (new : Fresh st) (cs : List Call) (range : All CallInRange
       pub seen : seen_in places cells rts ssrc s ≡ seen_by (history ssrc) rts s
 
     module _ (ssrc p high : ℕ) (is : HeldAt places ssrc p high) where
-      found : find_of places ssrc ≡ At p
+      found : find_of places ssrc ≡ Some p
       found = (held_found places ssrc p high is).0
 
       held : Holds cells p (place_at places p) ssrc (top_of (history ssrc)) (entries_of (history ssrc))
@@ -62,8 +62,8 @@ module _ (st : Store) (new : Fresh st) (cs : List Call) (range : All CallInRange
       highest : high ≡ top_of (history ssrc) % sequence_numbers
       highest = same high (top_of (history ssrc) % sequence_numbers) is.holds held.place
         where
-          same : (a b : ℕ) → place_at places p ≡ Held ssrc a → place_at places p ≡ Held ssrc b → a ≡ b
-          same a b e f = cc
+          same : (a b : ℕ) → place_at places p ≡ Some (record { ssrc = ssrc; highest = a }) → place_at places p ≡ Some (record { ssrc = ssrc; highest = b }) → a ≡ b
+          same a b e f = ap (λ (x : Stream). x.highest) (same_Some _ _ (sym e ∙ f))
 
       told : (s : ℕ) → (s < sequence_numbers) × (distance_of (top_of (history ssrc) % sequence_numbers) s < cells_of_a_place) → Told ssrc s
       told s (l, d) = record {
@@ -71,7 +71,7 @@ module _ (st : Store) (new : Fresh st) (cs : List Call) (range : All CallInRange
         full = full_number_lem (top_of (history ssrc)) s held.begun l d;
         seen =
             rw found
-            (ap (λ (c : Cell). seen_of c rts)
+            (ap (λ (c : Option Arrived). seen_of c rts)
             (cell_in_window cells p (place_at places p) ssrc (top_of (history ssrc)) (entries_of (history ssrc)) s held l d));
       }
 
@@ -88,7 +88,7 @@ module _ (st : Store) (new : Fresh st) (cs : List Call) (range : All CallInRange
     told_all earlier (r ∷ rs) (more p s h) b =
         (told_range r.ssrc p s.highest s.held r.begin r.count b.0.1 s.range, told_all (earlier ++ r ∷ []) rs h b.1)
 
-    module _ (bits : InBits sender rts rs) (p o : ℕ) (e : (written places cells sender rts limit n rs out).answer ≡ Written p o) where
+    module _ (bits : InBits sender rts rs) (p o : ℕ) (e : (written places cells sender rts limit n rs out).answer ≡ Ok (record { packets = p; octets = o })) where
       abbrev output : List ℕ
       output = (written places cells sender rts limit n rs out).output
 
@@ -104,7 +104,7 @@ module _ (st : Store) (new : Fresh st) (cs : List Call) (range : All CallInRange
       seen_in_lem : (ps : List (List ℕ)) → All (MetricsRead places cells rts) ps → All (OfNumbers Told) ps → All (SeenByHistory history rts) ps
       seen_in_lem [] h g = tt
       seen_in_lem (s ∷ ps) h g =
-          (λ k j b f l. h.0 k j b f l ∙ ap (asked.Reported ((b.begin_seq + j) % sequence_numbers)) (g.0 k j b f l).seen, seen_in_lem ps h.1 g.1)
+          (λ k j b f l. h.0 k j b f l ∙ ap (λ (m : Metric). Ok (record { number = (b.begin_seq + j) % sequence_numbers; metric = m })) (g.0 k j b f l).seen, seen_in_lem ps h.1 g.1)
 
       -- what is read in the written octets is what the accepted calls say, of each number of each range and
       -- of nothing else

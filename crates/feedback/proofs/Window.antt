@@ -8,7 +8,8 @@ use Rattle.lists.proofs.Cases.{split_le}
 use Rattle.window.specs.Number.{distance_of}
 use Rattle.ring.specs.Ring.{cells_of_a_place}
 use Rattle.place_window.specs.Window.{cell_at}
-use Rattle.places.specs.declared.Holding.{Holding}
+use Rattle.std.specs.Prelude.{Option}
+use Rattle.places.specs.declared.Stream.{Stream}
 use Rattle.cells.specs.Cell.{read_cell}
 use Rattle.streams.proofs.Numbers.{same_slot}
 use Rattle.history.specs.Meaning.{Entry, cell_by}
@@ -38,7 +39,7 @@ full_number_lem top s big small near = by_parts (top / 65536) (top % 65536) refl
         full_at top s (full_number top s) (q - 1) (distance_of (top % 65536) s) small refl near (omega (arith, d)) (omega (arith, d)))
 
 -- the cell of a number of the window reads as the entries of its full number say
-pub cell_in_window : (cells : List ℕ) (p : ℕ) (h : Holding) (ssrc top : ℕ) (es : List Entry) (s : ℕ) → Holds cells p h ssrc top es
+pub cell_in_window : (cells : List ℕ) (p : ℕ) (h : Option Stream) (ssrc top : ℕ) (es : List Entry) (s : ℕ) → Holds cells p h ssrc top es
     → s < 65536 → distance_of (top % 65536) s < cells_of_a_place → read_cell (cell_at cells p s) ≡ cell_by es (full_number top s)
 cell_in_window cells p h ssrc top es s held small near =
     let f : StandsFor top s (full_number top s) = full_number_lem top s held.begun small near in

@@ -1,6 +1,6 @@
 -- Rules: "What a store means". From calls to octets: what a reader of written feedback sees of each
 -- number, by the accepted arrivals of its stream.
-use Rattle.std.specs.Prelude.{ℕ, ◌+◌, ◌-◌, ◌%◌, ◌≤◌, ◌<◌, ◌≡◌, List, take}
+use Rattle.std.specs.Prelude.{ℕ, ◌+◌, ◌-◌, ◌%◌, ◌≤◌, ◌<◌, ◌≡◌, List, take, Ok}
 use Rattle.lists.specs.All.{All}
 use Rattle.metric.specs.Metric.{seen_of}
 use Rattle.metric.specs.declared.Metric.{Metric}
@@ -15,8 +15,6 @@ use Rattle.block_reader.specs.Blocks.{located}
 use Rattle.metric_reader.specs.Metrics.{reported_of}
 use Rattle.cutting.specs.declared.Request.{Request}
 use Rattle.writer_laws.specs.Read.{packets_in, Report}
-use Rattle.block_reader.specs.declared.BlockAnswer.TheVariants as answer
-use Rattle.reports.specs.declared.MetricAnswer.TheVariants as asked
 
 -- the full number of s in the window that ends with the full number top
 abbrev pub full_number : ℕ → ℕ → ℕ
@@ -38,15 +36,15 @@ seen_by history rts s = seen_of (cell_by (entries_of history) (full_number (top_
 -- a property of each number that a packet reports: number j of block k, of the stream of the block
 abbrev pub OfNumbers : (ℕ → ℕ → Type 0) → List ℕ → Type 0
 OfNumbers P s =
-    (k j : ℕ) (b : ReportBlock) → located (walk_of s) k ≡ answer.Found b → j < b.num_reports
+    (k j : ℕ) (b : ReportBlock) → located (walk_of s) k ≡ Ok b → j < b.num_reports
     → P b.ssrc ((b.begin_seq + j) % sequence_numbers)
 
 -- asking for metric j of block k answers that case
 abbrev pub SeenByHistory : (ℕ → List Accepted) → ℕ → List ℕ → Type 0
 SeenByHistory history rts s =
-    (k j : ℕ) (b : ReportBlock) → located (walk_of s) k ≡ answer.Found b → j < b.num_reports
+    (k j : ℕ) (b : ReportBlock) → located (walk_of s) k ≡ Ok b → j < b.num_reports
     → reported_of (located (walk_of s) k) s j
-    ≡ asked.Reported ((b.begin_seq + j) % sequence_numbers) (seen_by (history b.ssrc) rts ((b.begin_seq + j) % sequence_numbers))
+    ≡ Ok (record { number = (b.begin_seq + j) % sequence_numbers; metric = seen_by (history b.ssrc) rts ((b.begin_seq + j) % sequence_numbers) })
 
 -- rule "History of a stream", where the calls cs were made to a store st
 abbrev pub history_of : Store → List Call → ℕ → List Accepted

@@ -12,11 +12,10 @@ use borrow.Author.Tests.{lt-ltb, eq-eqb}
 use lib.Dec.{eqb}
 use lib.ListN.{length}
 use Rattle.lists.specs.All.{All}
-use Rattle.lists.specs.declared.Found.{Found}
+use Rattle.std.specs.Prelude.{Option, Some, None}
 use Rattle.lists.proofs.First.{first_true}
 use Rattle.lists.proofs.All.{all_map, all_over, all_append, all_zip}
 use Rattle.lists.proofs.Cases.{never}
-use Rattle.metric.specs.declared.Time.{Time}
 use Rattle.places.specs.Place.{place_at, is_stream, find_of}
 use Rattle.places.specs.Held.{HeldAt}
 use Rattle.places.proofs.Held.{found_held, lost_unheld}
@@ -42,12 +41,10 @@ use Rattle.history.proofs.Numbers.{top_of_numbers, fulls_of_numbers}
 use Rattle.metric.specs.Metric.{congested, TimeInRange}
 use Rattle.window.specs.Number.{sequence_numbers}
 use Rattle.ring.specs.Ring.{cells_of_a_place}
-use Rattle.lists.specs.declared.Found.TheVariants.{At, Nothing}
-use Rattle.places.specs.declared.Holding.TheVariants.{Held}
 
 -- ---- accepted arrivals and their full numbers
 -- an accepted arrival has a mark of 0 to 3
-done_mark : (ps : List (Place Entry)) (x number mark : ℕ) (time : Time) → is_done (model_answer ps (arrive x number mark time)) ≡ true → mark ≤ congested
+done_mark : (ps : List (Place Entry)) (x number mark : ℕ) (time : Option ℕ) → is_done (model_answer ps (arrive x number mark time)) ≡ true → mark ≤ congested
 done_mark ps x number mark time d =
     elim (dec_le mark congested) [ yes m ↦ m | no m ↦ absurd (false≢true (rw (lt-ltb congested mark (omega arith)) at d)) ]
 
@@ -130,38 +127,38 @@ module _ (st : Store) (new : Fresh st) (cs : List Call) (range : All CallInRange
       (run_kept cs (vacant (length st.places)) (λ (y : ℕ). []) (vacant_kept (length st.places)))
 
   -- no SSRC in two places
-  pub no_ssrc_twice : (ssrc p q h g : ℕ) → place_at (store_run st cs).places p ≡ Held ssrc h → place_at (store_run st cs).places q ≡ Held ssrc g → p ≡ q
+  pub no_ssrc_twice : (ssrc p q h g : ℕ) → place_at (store_run st cs).places p ≡ Some (record { ssrc = ssrc; highest = h }) → place_at (store_run st cs).places q ≡ Some (record { ssrc = ssrc; highest = g }) → p ≡ q
   no_ssrc_twice ssrc p q h g a b = kept.once ssrc p q (test p h a) (test q g b)
     where
-      test : (k h : ℕ) → place_at (store_run st cs).places k ≡ Held ssrc h → names ssrc (at model k) ≡ true
+      test : (k h : ℕ) → place_at (store_run st cs).places k ≡ Some (record { ssrc = ssrc; highest = h }) → names ssrc (at model k) ≡ true
       test k h e =
           sym (named arrival_meaning (store_run st cs).cells k (place_at (store_run st cs).places k) ssrc (at model k) (same_reading.each k))
           ∙ ap (is_stream ssrc) e
           ∙ eq-eqb ssrc ssrc refl
 
   module _ (ssrc : ℕ) where
-    found_by : (f : Found) → find_of (store_run st cs).places ssrc ≡ f → found_in f model ≡ place_by ssrc (history ssrc)
-    found_by f e = ap (λ (g : Found). found_in g model) (sym (sym (find_same arrival_meaning (store_run st cs) model same_reading ssrc) ∙ e)) ∙ kept.each ssrc
+    found_by : (f : Option ℕ) → find_of (store_run st cs).places ssrc ≡ f → found_in f model ≡ place_by ssrc (history ssrc)
+    found_by f e = ap (λ (g : Option ℕ). found_in g model) (sym (sym (find_same arrival_meaning (store_run st cs) model same_reading ssrc) ∙ e)) ∙ kept.each ssrc
 
     -- a stream that the store does not hold has no accepted arrival since it was forgotten, and the other way round
-    pub not_held_lem : find_of (store_run st cs).places ssrc ≡ Nothing → history ssrc ≡ []
-    not_held_lem e = none (history ssrc) (found_by Nothing e)
+    pub not_held_lem : find_of (store_run st cs).places ssrc ≡ None → history ssrc ≡ []
+    not_held_lem e = none (history ssrc) (found_by None e)
       where
         none : (l : List Accepted) → free ≡ place_by ssrc l → l ≡ []
         none [] h = refl
         none (a ∷ l) h = never (cc)
 
-    not_free : (p : ℕ) → find_of (store_run st cs).places ssrc ≡ At p → at model p ≡ free → ⊥
+    not_free : (p : ℕ) → find_of (store_run st cs).places ssrc ≡ Some p → at model p ≡ free → ⊥
     not_free p found e =
         let t = first_true (λ (k : ℕ). names ssrc (at model k)) (length model) 0 p (sym (find_same arrival_meaning (store_run st cs) model same_reading ssrc) ∙ found) in
         false≢true (sym (ap (names ssrc) e) ∙ t)
 
-    pub none_held : history ssrc ≡ [] → find_of (store_run st cs).places ssrc ≡ Nothing
+    pub none_held : history ssrc ≡ [] → find_of (store_run st cs).places ssrc ≡ None
     none_held e = by_search (find_of (store_run st cs).places ssrc) refl
       where
-        by_search : (f : Found) → find_of (store_run st cs).places ssrc ≡ f → f ≡ Nothing
-        by_search (At p) g = absurd (not_free p g (found_by (At p) g ∙ ap (place_by ssrc) e))
-        by_search Nothing g = refl
+        by_search : (f : Option ℕ) → find_of (store_run st cs).places ssrc ≡ f → f ≡ None
+        by_search (Some p) g = absurd (not_free p g (found_by (Some p) g ∙ ap (place_by ssrc) e))
+        by_search None g = refl
 
     -- rule "Forgetting": once the stream is forgotten its history is empty, also where it was not held and that was refused
     pub forgotten_history : ssrc < 2 ^ 32 → accepted_of ssrc (cs ++ (forget ssrc ∷ [])) (store_answers st (cs ++ (forget ssrc ∷ []))) ≡ []
@@ -173,10 +170,10 @@ module _ (st : Store) (new : Fresh st) (cs : List Call) (range : All CallInRange
     pub accepted_in_range : All AcceptedInRange (history ssrc)
     accepted_in_range = rw same_answers (run_range ssrc cs (vacant (length st.places)) [] range tt)
 
-    module _ (p : ℕ) (found : find_of (store_run st cs).places ssrc ≡ At p) where
+    module _ (p : ℕ) (found : find_of (store_run st cs).places ssrc ≡ Some p) where
       -- a stream that it holds: H, and each cell of its window, are as its accepted arrivals say
       pub by_history : Holds (store_run st cs).cells p (place_at (store_run st cs).places p) ssrc (top_of (history ssrc)) (entries_of (history ssrc))
-      by_history = holds (history ssrc) (found_by (At p) found)
+      by_history = holds (history ssrc) (found_by (Some p) found)
         where
           holds : (l : List Accepted) → at model p ≡ place_by ssrc l
               → Holds (store_run st cs).cells p (place_at (store_run st cs).places p) ssrc (top_of l) (entries_of l)
@@ -194,11 +191,11 @@ module _ (st : Store) (new : Fresh st) (cs : List Call) (range : All CallInRange
     pub entries_in_range : All EntryInRange (entries_of (history ssrc))
     entries_in_range = by_search (find_of (store_run st cs).places ssrc) refl
       where
-        by_search : (f : Found) → find_of (store_run st cs).places ssrc ≡ f → All EntryInRange (entries_of (history ssrc))
-        by_search (At p) e =
+        by_search : (f : Option ℕ) → find_of (store_run st cs).places ssrc ≡ f → All EntryInRange (entries_of (history ssrc))
+        by_search (Some p) e =
             all_zip (entries_of (history ssrc)) (λ d low kept. (low, kept)) (by_history p e).lowest
             (entries_kept (history ssrc) accepted_in_range)
-        by_search Nothing e = rw (not_held_lem e) tt
+        by_search None e = rw (not_held_lem e) tt
 
 -- ---- a stream by itself
 -- each slot of the ring is that of one number of the window
@@ -211,18 +208,18 @@ module _ (st st' : Store) (new : Fresh st) (new' : Fresh st') (cs cs' : List Cal
   past = accepted_of ssrc cs (store_answers st cs)
 
   -- held in one exactly if held in the other: a stream is held exactly if it has an accepted arrival
-  not_held_too : find_of (store_run st cs).places ssrc ≡ Nothing → find_of (store_run st' cs').places ssrc ≡ Nothing
+  not_held_too : find_of (store_run st cs).places ssrc ≡ None → find_of (store_run st' cs').places ssrc ≡ None
   not_held_too e = none_held st' new' cs' range' ssrc (sym same ∙ not_held_lem st new cs range ssrc e)
 
-  module _ (p : ℕ) (found : find_of (store_run st cs).places ssrc ≡ At p) where
+  module _ (p : ℕ) (found : find_of (store_run st cs).places ssrc ≡ Some p) where
     -- the other store holds the stream too
-    pub same_held : (q : ℕ) × (find_of (store_run st' cs').places ssrc ≡ At q)
+    pub same_held : (q : ℕ) × (find_of (store_run st' cs').places ssrc ≡ Some q)
     same_held = by_search (find_of (store_run st' cs').places ssrc) refl
       where
-        by_search : (f : Found) → find_of (store_run st' cs').places ssrc ≡ f → (q : ℕ) × (find_of (store_run st' cs').places ssrc ≡ At q)
-        by_search (At q) e = (q, e)
-        by_search Nothing e =
-            let none : find_of (store_run st cs).places ssrc ≡ Nothing = none_held st new cs range ssrc (same ∙ not_held_lem st' new' cs' range' ssrc e) in
+        by_search : (f : Option ℕ) → find_of (store_run st' cs').places ssrc ≡ f → (q : ℕ) × (find_of (store_run st' cs').places ssrc ≡ Some q)
+        by_search (Some q) e = (q, e)
+        by_search None e =
+            let none : find_of (store_run st cs).places ssrc ≡ None = none_held st new cs range ssrc (same ∙ not_held_lem st' new' cs' range' ssrc e) in
             never (cc)
 
     H : Holds (store_run st cs).cells p (place_at (store_run st cs).places p) ssrc (top_of past) (entries_of past)
@@ -247,10 +244,10 @@ module _ (st st' : Store) (new : Fresh st) (new' : Fresh st') (cs cs' : List Cal
   pub same_stream : SameStream (store_run st cs) (store_run st' cs') ssrc
   same_stream = by_search (find_of (store_run st cs).places ssrc) refl
     where
-      by_search : (f : Found) → find_of (store_run st cs).places ssrc ≡ f → SameStream (store_run st cs) (store_run st' cs') ssrc
-      by_search Nothing e =
+      by_search : (f : Option ℕ) → find_of (store_run st cs).places ssrc ≡ f → SameStream (store_run st cs) (store_run st' cs') ssrc
+      by_search None e =
           unheld (lost_unheld (store_run st cs).places ssrc e) (lost_unheld (store_run st' cs').places ssrc (not_held_too e))
-      by_search (At p) e =
+      by_search (Some p) e =
           let q = same_held p e in
           held p q.0 (top_of past % sequence_numbers) (held_by_history st new cs range ssrc p e)
           (rw same (held_by_history st' new' cs' range' ssrc q.0 q.1)) (same_metrics p e)

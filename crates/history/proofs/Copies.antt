@@ -8,17 +8,16 @@ use native.Mathlib.Decide.{ℕ_discrete}
 use borrow.Author.Tests.{eq-eqb, ne_eqb}
 use lib.Dec.{eqb}
 use Rattle.lists.specs.All.{All}
-use Rattle.metric.specs.declared.Time.{Time}
-use Rattle.metric.specs.declared.Cell.{Cell}
+use Rattle.std.specs.Prelude.{Option, Some, None}
+use Rattle.metric.specs.declared.Arrived.{Arrived}
 use Rattle.cells.specs.Cell.{folded_mark}
 use Rattle.history.specs.Meaning.{Entry, copies_of, any_ce, cell_of, cell_by}
 use Rattle.metric.specs.Metric.{congested}
-use Rattle.metric.specs.declared.Cell.TheVariants.{Empty, Filled}
 
 -- an arrival at an empty cell, and a copy
-abbrev pub after_copy : Cell → ℕ → Time → Cell
-after_copy Empty mark time = Filled mark time
-after_copy (Filled held first) mark time = Filled (folded_mark held mark) first
+abbrev pub after_copy : Option Arrived → ℕ → Option ℕ → Option Arrived
+after_copy None mark time = Some (record { mark = mark; time = time })
+after_copy (Some a) mark time = Some (record { mark = folded_mark a.mark mark; time = a.time })
 
 or_assoc : (a b c : Bool) → (a || (b || c)) ≡ ((a || b) || c)
 or_assoc true b c = refl
@@ -44,7 +43,7 @@ mark_first mark = elim (ℕ_discrete mark congested) [ yes e ↦ simp (eq-eqb ma
 pub cell_append : (cs : List Entry) (e : Entry) → cell_of (cs ++ (e ∷ [])) ≡ after_copy (cell_of cs) e.mark e.time
 cell_append [] e = rw (mark_first e.mark)
 cell_append (c ∷ cs) e =
-    ap (λ (m : ℕ). Filled m c.time)
+    ap (λ (m : ℕ). Some (record { mark = m; time = c.time }))
     (ap (λ (b : Bool). cond b congested c.mark) (any_append (c ∷ cs) e) ∙ mark_fold (any_ce (c ∷ cs)) c.mark e.mark)
 
 module _ (e : Entry) (n : ℕ) where
@@ -66,7 +65,7 @@ module _ (e : Entry) (n : ℕ) where
   by_other q es = ap cell_of (copies_other q es)
 
 -- arrivals of other full numbers leave the cell empty
-pub by_none : (n : ℕ) (es : List Entry) → All (λ (e : Entry). e.full ≡ n → ⊥) es → cell_by es n ≡ Empty
+pub by_none : (n : ℕ) (es : List Entry) → All (λ (e : Entry). e.full ≡ n → ⊥) es → cell_by es n ≡ None
 unfolding copies_of
 by_none n [] h = refl
 by_none n (e ∷ es) h = rw (ne_eqb e.full n h.0) (by_none n es h.1)

@@ -7,21 +7,18 @@ use native.Mathlib.Omega.{arith}
 use native.Mathlib.Decide.{ℕ_discrete, dec_le}
 use borrow.Author.Tests.{lt-ltb, le-ltb, eq-eqb, ne_eqb}
 use lib.Dec.{eqb}
-use Rattle.lists.specs.declared.Found.{Found}
+use Rattle.std.specs.Prelude.{Option, Result, Some, None, Ok, Err}
+use Rattle.refusal.specs.declared.Refusal.{Refusal}
 use Rattle.lists.proofs.Cases.{never}
 use Rattle.metric.specs.Metric.{congested}
-use Rattle.metric.specs.declared.Time.{Time}
 use Rattle.streams.specs.Full.{full_of, first_full}
 use Rattle.streams.specs.Model.{Place, free, stream, ModelAfter, find_in, found_in, stream_in, vacant}
 use Rattle.streams.specs.Alone.{Once, Only, next_full, with_one, Admitted, entered, kept}
 use Rattle.streams.proofs.Alone.{admitted_as, found_only, vacant_once, vacant_stream}
-use Rattle.admission.specs.declared.Arrival.{Arrival}
 use Rattle.admission.specs.declared.ArrivalKind.{ArrivalKind}
 use Rattle.history.specs.Calls.{Call, arrive, forget, to_arrival, to_forgetting, Accepted, is_done, heard, heard_all}
 use Rattle.history.specs.Meaning.{Entry, entry_of, count_from, top_from, entries_of, top_of}
 use Rattle.history.specs.Model.{model_kind, model_arrived, forgot_at, model_forgot, model_step, model_answer, model_run, model_answers}
-use Rattle.lists.specs.declared.Found.TheVariants.{At, Nothing}
-use Rattle.admission.specs.declared.Arrival.TheVariants as arrival
 
 -- a stream with its accepted arrivals
 abbrev pub place_by : ℕ → List Accepted → Place Entry
@@ -76,14 +73,14 @@ module _ (ps : List (Place Entry)) (acc : ℕ → List Accepted) (K : Kept ps ac
             | no e ↦ only.others y (λ q. e (sym q)) ∙ K.each y ∙ ap (place_by y) (sym (others y e))
           ]
 
-  module _ (x number mark : ℕ) (time : Time) where
+  module _ (x number mark : ℕ) (time : Option ℕ) where
     abbrev new : Accepted
     new = record { number = number; mark = mark; time = time }
 
     abbrev call : Call
     call = arrive x number mark time
 
-    abbrev Goal : ModelAfter Entry Arrival → Type 0
+    abbrev Goal : ModelAfter Entry (Result ArrivalKind Refusal) → Type 0
     Goal o = Kept o.places (λ (y : ℕ). heard y (acc y) call (is_done (to_arrival o.answer)))
 
     own_arrival : heard x (acc x) call true ≡ acc x ++ (new ∷ [])
@@ -92,7 +89,7 @@ module _ (ps : List (Place Entry)) (acc : ℕ → List Accepted) (K : Kept ps ac
     own_entry : with_one (entry_of new) x (stream_in ps x) (next_full (stream_in ps x) number) ≡ place_by x (heard x (acc x) call true)
     own_entry = rw (K.each x, own_arrival) (one_more x new (acc x))
 
-    admitted_kept : (k : ArrivalKind) (o : ModelAfter Entry Arrival) → Admitted (entry_of new) (arrival.Accepted k) arrival.Refused ps x number o → Goal o
+    admitted_kept : (k : ArrivalKind) (o : ModelAfter Entry (Result ArrivalKind Refusal)) → Admitted (entry_of new) (Ok k) Err ps x number o → Goal o
     admitted_kept k o (entered ps' only) =
         changed_kept call x ps' (with_one (entry_of new) x (stream_in ps x) (next_full (stream_in ps x) number)) only own_entry (λ y n. rw (ne_eqb x y n))
     admitted_kept k o (kept e) = refused_kept call
@@ -102,7 +99,7 @@ module _ (ps : List (Place Entry)) (acc : ℕ → List Accepted) (K : Kept ps ac
         elim (dec_le mark congested) [
           | yes m ↦
               rw (le-ltb congested mark m)
-              (admitted_kept _ _ (admitted_as (entry_of new) ps K.once x number (arrival.Accepted (model_kind (stream_in ps x) number)) arrival.Refused))
+              (admitted_kept _ _ (admitted_as (entry_of new) ps K.once x number (Ok (model_kind (stream_in ps x) number)) Err))
           | no m ↦ rw (lt-ltb congested mark (omega arith)) (refused_kept call)
         ]
 
@@ -113,12 +110,12 @@ module _ (ps : List (Place Entry)) (acc : ℕ → List Accepted) (K : Kept ps ac
   forgot_kept : (x : ℕ) → Kept (model_forgot ps x).places (λ (y : ℕ). heard y (acc y) (forget x) (is_done (to_forgetting (model_forgot ps x).answer)))
   forgot_kept x = found (find_in ps x) refl
     where
-      found : (f : Found) → find_in ps x ≡ f
+      found : (f : Option ℕ) → find_in ps x ≡ f
           → Kept (forgot_at f ps).places (λ (y : ℕ). heard y (acc y) (forget x) (is_done (to_forgetting (forgot_at f ps).answer)))
-      found (At k) e =
+      found (Some k) e =
           changed_kept (forget x) x _ free (found_only ps K.once x k e free (λ y h. absurd (false≢true h)))
           (ap (place_by x) (sym (own_forgetting x))) (λ y n. rw (ne_eqb x y n))
-      found Nothing e = refused_kept (forget x)
+      found None e = refused_kept (forget x)
 
   -- once it is forgotten, or was not held to begin with, its history is empty
   forgotten_empty : (x : ℕ) → heard x (acc x) (forget x) (is_done (to_forgetting (model_forgot ps x).answer)) ≡ []
@@ -128,9 +125,9 @@ module _ (ps : List (Place Entry)) (acc : ℕ → List Accepted) (K : Kept ps ac
       none [] h = refl
       none (a ∷ l) h = never (cc)
 
-      found : (f : Found) → find_in ps x ≡ f → heard x (acc x) (forget x) (is_done (to_forgetting (forgot_at f ps).answer)) ≡ []
-      found (At k) e = own_forgetting x
-      found Nothing e = heard_refused x (acc x) (forget x) ∙ none (acc x) (ap (λ (f : Found). found_in f ps) (sym e) ∙ K.each x)
+      found : (f : Option ℕ) → find_in ps x ≡ f → heard x (acc x) (forget x) (is_done (to_forgetting (forgot_at f ps).answer)) ≡ []
+      found (Some k) e = own_forgetting x
+      found None e = heard_refused x (acc x) (forget x) ∙ none (acc x) (ap (λ (f : Option ℕ). found_in f ps) (sym e) ∙ K.each x)
 
   pub call_kept : (c : Call) → Kept (model_step ps c) (λ (y : ℕ). heard y (acc y) c (is_done (model_answer ps c)))
   call_kept (arrive x number mark time) = arrived_kept x number mark time

@@ -6,7 +6,7 @@ use native.Mathlib.Omega.{arith}
 use native.Mathlib.Decide.{dec_le, dec_lt}
 use borrow.Author.Tests.{lt-ltb, le-ltb}
 use lib.ListN.{get_or, length}
-use Rattle.lists.specs.declared.Found.{Found}
+use Rattle.std.specs.Prelude.{Option, Some, None, Ok, Err}
 use Rattle.lists.proofs.First.{first_true}
 use Rattle.ring.specs.Ring.{cells_of_a_place}
 use Rattle.window.specs.Number.{distance_of, farthest_ahead, sequence_numbers}
@@ -25,8 +25,6 @@ use Rattle.streams.proofs.Places.{named_is, later_old, find_same}
 use Rattle.history.specs.Meaning.{Entry}
 use Rattle.history.specs.Model.{kind_of_full, model_kind}
 use Rattle.history.specs.Reading.{arrival_meaning, Holds, Reads}
-use Rattle.lists.specs.declared.Found.TheVariants.{At, Nothing}
-use Rattle.admission.specs.declared.Arrival.TheVariants as arrival
 
 module _ (st : Store) (ps : List (Place Entry)) (R : Reads st ps) (entry : ℕ → Entry) (ssrc number : ℕ) (low : number < sequence_numbers) where
   -- a number of a stream that place k holds, where it is not too old
@@ -43,7 +41,7 @@ module _ (st : Store) (ps : List (Place Entry)) (R : Reads st ps) (entry : ℕ �
         ap (λ (i : ℕ). get_or st.cells (cells_of_a_place * k + i) 0)
         (sym (same_slot (full_of top number) number (full_low top number H.begun low)))
 
-    store_kind_lem : kind_at (At k) st.places st.cells number ≡ later_kind ahead (read_cell (cell_at st.cells k number))
+    store_kind_lem : kind_at (Some k) st.places st.cells number ≡ later_kind ahead (read_cell (cell_at st.cells k number))
     store_kind_lem = rw (kind_later st.places st.cells k number, held_highest (get_or st.places k 0) ssrc (top % sequence_numbers) H.place)
 
     behind_kind : (0 < ahead → farthest_ahead < ahead) → top < full_of top number + cells_of_a_place
@@ -53,7 +51,7 @@ module _ (st : Store) (ps : List (Place Entry)) (R : Reads st ps) (entry : ℕ �
         let full = full_behind top number H.begun low d in
         rw (is_behind ahead d, le-ltb top (full_of top number) (omega arith), cell_is, H.window (full_of top number) (omega arith) new)
 
-    same_kind : top < full_of top number + cells_of_a_place → kind_at (At k) st.places st.cells number ≡ kind_of_full top es (full_of top number)
+    same_kind : top < full_of top number + cells_of_a_place → kind_at (Some k) st.places st.cells number ≡ kind_of_full top es (full_of top number)
     unfolding kind_of_full
     same_kind new =
         store_kind_lem
@@ -73,20 +71,20 @@ module _ (st : Store) (ps : List (Place Entry)) (R : Reads st ps) (entry : ℕ �
   abbrev store_kind : ArrivalKind
   store_kind = kind_at (find_of st.places ssrc) st.places st.cells number
 
-  abbrev Same : Found → Type 0
+  abbrev Same : Option ℕ → Type 0
   Same f =
-      admitted_in (arrival.Accepted (kind_at f st.places st.cells number)) arrival.Refused entry f ps ssrc number
-      ≡ admitted_in (arrival.Accepted (model_kind (found_in f ps) number)) arrival.Refused entry f ps ssrc number
+      admitted_in (Ok (kind_at f st.places st.cells number)) Err entry f ps ssrc number
+      ≡ admitted_in (Ok (model_kind (found_in f ps) number)) Err entry f ps ssrc number
 
-  same_found : (f : Found) → find_in ps ssrc ≡ f → Same f
-  same_found Nothing e = rw (kind_new st.places st.cells number)
-  same_found (At k) e = named (named_is ssrc (at ps k) (first_true (λ (i : ℕ). names ssrc (at ps i)) (length ps) 0 k e))
+  same_found : (f : Option ℕ) → find_in ps ssrc ≡ f → Same f
+  same_found None e = rw (kind_new st.places st.cells number)
+  same_found (Some k) e = named (named_is ssrc (at ps k) (first_true (λ (i : ℕ). names ssrc (at ps i)) (length ps) 0 k e))
     where
-      named : (top : ℕ) × ((es : List Entry) × (at ps k ≡ stream ssrc top es)) → Same (At k)
+      named : (top : ℕ) × ((es : List Entry) × (at ps k ≡ stream ssrc top es)) → Same (Some k)
       named (top, (es, held)) =
           elim (dec_lt top (full_of top number + cells_of_a_place)) [
             | yes new ↦
-                ap (λ (a : ArrivalKind). later_at (arrival.Accepted a) arrival.Refused entry ps k ssrc (full_of (highest_in (at ps k)) number))
+                ap (λ (a : ArrivalKind). later_at (Ok a) Err entry ps k ssrc (full_of (highest_in (at ps k)) number))
                 (same_kind k top es held new ∙ ap (λ (P : Place Entry). model_kind P number) (sym held))
             | no old ↦
                 let gone : full_of (highest_in (at ps k)) number + cells_of_a_place ≤ highest_in (at ps k) = rw held (omega arith) in
@@ -94,6 +92,6 @@ module _ (st : Store) (ps : List (Place Entry)) (R : Reads st ps) (entry : ℕ �
                 ∙ sym (later_old entry ps k ssrc (full_of (highest_in (at ps k)) number) _ _ gone)
           ]
 
-  pub same_admitted : admitted (arrival.Accepted store_kind) arrival.Refused entry ps ssrc number
-      ≡ admitted (arrival.Accepted (model_kind (stream_in ps ssrc) number)) arrival.Refused entry ps ssrc number
+  pub same_admitted : admitted (Ok store_kind) Err entry ps ssrc number
+      ≡ admitted (Ok (model_kind (stream_in ps ssrc) number)) Err entry ps ssrc number
   same_admitted = rw (find_same arrival_meaning st ps R ssrc) (same_found (find_in ps ssrc) refl)

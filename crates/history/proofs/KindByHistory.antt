@@ -10,16 +10,15 @@ use borrow.Author.Tests.{lt-ltb, le-ltb}
 use lib.Dec.{ltb}
 use Rattle.lists.specs.All.{All}
 use Rattle.lists.proofs.All.{all_append, all_join, all_member}
-use Rattle.lists.specs.declared.Found.{Found}
+use Rattle.std.specs.Prelude.{Option, Result, Some, None, Ok, Err}
+use Rattle.refusal.specs.declared.Refusal.{Refusal}
+use Rattle.metric.specs.declared.Arrived.{Arrived}
 use Rattle.lists.proofs.Cases.{never}
 use Rattle.metric.specs.Metric.{congested}
-use Rattle.metric.specs.declared.Cell.{Cell}
-use Rattle.metric.specs.declared.Time.{Time}
 use Rattle.window.specs.Number.{distance_of, sequence_numbers}
 use Rattle.places.specs.Place.{find_of}
 use Rattle.arrivals.specs.Arrivals.{arrived}
 use Rattle.admission.specs.Kind.{kind_in}
-use Rattle.admission.specs.declared.Arrival.{Arrival}
 use Rattle.admission.specs.declared.ArrivalKind.{ArrivalKind}
 use Rattle.streams.specs.Full.{full_of}
 use Rattle.streams.specs.Model.{Place, ModelAfter, model_after, stream_in, admitted}
@@ -34,21 +33,18 @@ use Rattle.history.proofs.Filled.{as_arrivals}
 use Rattle.history.proofs.Heard.{place_by}
 use Rattle.history.proofs.Simulation.{arrive_alike}
 use Rattle.history.proofs.ByHistory as history
-use Rattle.lists.specs.declared.Found.TheVariants.{At, Nothing}
-use Rattle.metric.specs.declared.Cell.TheVariants.{Empty, Filled}
 use Rattle.refusal.specs.declared.Refusal.TheVariants.{BadMark}
-use Rattle.admission.specs.declared.Arrival.TheVariants as arrival
 use Rattle.admission.specs.declared.ArrivalKind.TheVariants as kind
 
 -- ---- the kind that the machine gives is that of the stream's history
 module _ (number : ℕ) where
   -- a full number that is not above the highest: a copy, or late
   behind_by : (past : List Accepted) → (past ≡ [] → ⊥) → full_of (top_of past) number ≤ top_of past
-      → (c : Cell) → cell_by (entries_of past) (full_of (top_of past) number) ≡ c → KindGiven past number (kind_in c)
-  behind_by past n low Empty e =
+      → (c : Option Arrived) → cell_by (entries_of past) (full_of (top_of past) number) ≡ c → KindGiven past number (kind_in c)
+  behind_by past n low None e =
       KindGiven.late n low (λ d m q. (as_arrivals (entries_of past) (full_of (top_of past) number)).filled d m q e)
-  behind_by past n low (Filled mark time) e =
-      let o = (as_arrivals (entries_of past) (full_of (top_of past) number)).only mark time e in
+  behind_by past n low (Some a) e =
+      let o = (as_arrivals (entries_of past) (full_of (top_of past) number)).only a.mark a.time e in
       KindGiven.copy o.0 o.1.0 o.1.1
 
   pub kind_by : (ssrc : ℕ) (past : List Accepted) → KindGiven past number (model_kind (place_by ssrc past) number)
@@ -73,7 +69,7 @@ module _ (number : ℕ) where
     abbrev past : List Accepted
     past = a ∷ l
 
-    in_cell : (c : Cell) → cell_by (entries_of past) (full_of (top_of past) number) ≡ c → full_of (top_of past) number ≤ top_of past
+    in_cell : (c : Option Arrived) → cell_by (entries_of past) (full_of (top_of past) number) ≡ c → full_of (top_of past) number ≤ top_of past
         → model_kind (place_by ssrc past) number ≡ kind_in c
     unfolding kind_of_full
     in_cell c e low = rw (le-ltb (top_of past) (full_of (top_of past) number) low, e)
@@ -89,15 +85,15 @@ module _ (number : ℕ) where
         low : full_of (top_of past) number ≤ top_of past
         low = let h : e.full ≤ top_of past = all_member (λ (d : Entry). d.full ≤ top_of past) (entries_of past) e below m in omega arith
 
-        by_cell : (c : Cell) → cell_by (entries_of past) (full_of (top_of past) number) ≡ c → kind.Copy ≡ model_kind (place_by ssrc past) number
-        by_cell Empty w = absurd ((as_arrivals (entries_of past) (full_of (top_of past) number)).filled e m q w)
-        by_cell (Filled mark time) w = sym (in_cell (Filled mark time) w low)
+        by_cell : (c : Option Arrived) → cell_by (entries_of past) (full_of (top_of past) number) ≡ c → kind.Copy ≡ model_kind (place_by ssrc past) number
+        by_cell None w = absurd ((as_arrivals (entries_of past) (full_of (top_of past) number)).filled e m q w)
+        by_cell (Some a) w = sym (in_cell (Some (record { mark = a.mark; time = a.time })) w low)
     held_only k (KindGiven.late n low none) = by_cell (cell_by (entries_of past) (full_of (top_of past) number)) refl
       where
-        by_cell : (c : Cell) → cell_by (entries_of past) (full_of (top_of past) number) ≡ c → kind.Late ≡ model_kind (place_by ssrc past) number
-        by_cell Empty w = sym (in_cell Empty w low)
-        by_cell (Filled mark time) w =
-            let o = (as_arrivals (entries_of past) (full_of (top_of past) number)).only mark time w in
+        by_cell : (c : Option Arrived) → cell_by (entries_of past) (full_of (top_of past) number) ≡ c → kind.Late ≡ model_kind (place_by ssrc past) number
+        by_cell None w = sym (in_cell None w low)
+        by_cell (Some a) w =
+            let o = (as_arrivals (entries_of past) (full_of (top_of past) number)).only a.mark a.time w in
             absurd (none o.0 o.1.0 o.1.1)
 
   kind_only_by : (ssrc : ℕ) (l : List Accepted) → All (λ (e : Entry). e.full ≤ top_of l) (entries_of l) → (k : ArrivalKind) → KindGiven l number k
@@ -109,26 +105,26 @@ module _ (number : ℕ) where
   kind_only_by ssrc (a ∷ l) below k g = held_only ssrc a l below k g
 
 -- ---- an arrival that the machine accepts has the machine's kind
-admitted_kind : (entry : ℕ → Entry) (ps : List (Place Entry)) (x number : ℕ) (own k : ArrivalKind) (o : ModelAfter Entry Arrival)
-    → Admitted entry (arrival.Accepted own) arrival.Refused ps x number o → o.answer ≡ arrival.Accepted k → k ≡ own
+admitted_kind : (entry : ℕ → Entry) (ps : List (Place Entry)) (x number : ℕ) (own k : ArrivalKind) (o : ModelAfter Entry (Result ArrivalKind Refusal))
+    → Admitted entry (Ok own) Err ps x number o → o.answer ≡ Ok k → k ≡ own
 admitted_kind entry ps x number own k o (entered ps' only) q = cc
 admitted_kind entry ps x number own k o (kept e) q = never (cc)
 
-model_kind_lem : (ps : List (Place Entry)) → Once ps → (x number mark : ℕ) (time : Time) (k : ArrivalKind)
-    → (model_arrived ps x number mark time).answer ≡ arrival.Accepted k → k ≡ model_kind (stream_in ps x) number
+model_kind_lem : (ps : List (Place Entry)) → Once ps → (x number mark : ℕ) (time : Option ℕ) (k : ArrivalKind)
+    → (model_arrived ps x number mark time).answer ≡ Ok k → k ≡ model_kind (stream_in ps x) number
 model_kind_lem ps once x number mark time k q = by_mark (ltb congested mark) q
   where
     entry : ℕ → Entry
     entry = entry_of (record { number = number; mark = mark; time = time })
 
     by_mark : (b : Bool)
-        → (cond b (model_after (arrival.Refused BadMark) ps) (admitted (arrival.Accepted (model_kind (stream_in ps x) number)) arrival.Refused entry ps x number)).answer
-        ≡ arrival.Accepted k
+        → (cond b (model_after (Err BadMark) ps) (admitted (Ok (model_kind (stream_in ps x) number)) Err entry ps x number)).answer
+        ≡ Ok k
         → k ≡ model_kind (stream_in ps x) number
     by_mark true e = never (cc)
     by_mark false e =
         admitted_kind entry ps x number (model_kind (stream_in ps x) number) k _
-        (admitted_as entry ps once x number (arrival.Accepted (model_kind (stream_in ps x) number)) arrival.Refused) e
+        (admitted_as entry ps once x number (Ok (model_kind (stream_in ps x) number)) Err) e
 
 -- ---- after any list of calls to a fresh store
 -- the highest number once more has the highest full number
@@ -138,15 +134,15 @@ full_again top number h =
     let d : distance_of number (top % sequence_numbers) ≡ 0 = omega arith in
     rw d (omega arith)
 
-module _ (st : Store) (new : Fresh st) (cs : List Call) (range : All CallInRange cs) (ssrc number mark : ℕ) (time : Time)
+module _ (st : Store) (new : Fresh st) (cs : List Call) (range : All CallInRange cs) (ssrc number mark : ℕ) (time : Option ℕ)
     (r : CallInRange (arrive ssrc number mark time)) where
   abbrev past_of : List Accepted
   past_of = accepted_of ssrc cs (store_answers st cs)
 
-  abbrev answer : Arrival
+  abbrev answer : Result ArrivalKind Refusal
   answer = (arrived (store_run st cs).places (store_run st cs).cells ssrc number mark time).answer
 
-  kind_is : (k : ArrivalKind) → answer ≡ arrival.Accepted k → k ≡ model_kind (place_by ssrc past_of) number
+  kind_is : (k : ArrivalKind) → answer ≡ Ok k → k ≡ model_kind (place_by ssrc past_of) number
   kind_is k e =
       let K = history.kept st new cs range in
       let alike = arrive_alike (store_run st cs) _ (history.same_reading st new cs range) ssrc number mark time r.0 r.1.0 r.1.1 in
@@ -154,26 +150,26 @@ module _ (st : Store) (new : Fresh st) (cs : List Call) (range : All CallInRange
       ∙ ap (λ (P : Place Entry). model_kind P number) (K.each ssrc)
 
   -- an accepted arrival is answered with the kind that the history of its stream says
-  pub kind_given : (k : ArrivalKind) → answer ≡ arrival.Accepted k → KindGiven past_of number k
+  pub kind_given : (k : ArrivalKind) → answer ≡ Ok k → KindGiven past_of number k
   kind_given k e = rw (kind_is k e) (kind_by number ssrc past_of)
 
   below_top : All (λ (e : Entry). e.full ≤ top_of past_of) (entries_of past_of)
   below_top = by_search (find_of (store_run st cs).places ssrc) refl
     where
-      by_search : (f : Found) → find_of (store_run st cs).places ssrc ≡ f → All (λ (e : Entry). e.full ≤ top_of past_of) (entries_of past_of)
-      by_search (At p) f = (history.by_history st new cs range ssrc p f).highest
-      by_search Nothing f = rw (history.not_held_lem st new cs range ssrc f) tt
+      by_search : (f : Option ℕ) → find_of (store_run st cs).places ssrc ≡ f → All (λ (e : Entry). e.full ≤ top_of past_of) (entries_of past_of)
+      by_search (Some p) f = (history.by_history st new cs range ssrc p f).highest
+      by_search None f = rw (history.not_held_lem st new cs range ssrc f) tt
 
   -- and with no other
-  pub kind_only : (k : ArrivalKind) → answer ≡ arrival.Accepted k → (j : ArrivalKind) → KindGiven past_of number j → j ≡ k
+  pub kind_only : (k : ArrivalKind) → answer ≡ Ok k → (j : ArrivalKind) → KindGiven past_of number j → j ≡ k
   kind_only k e j g = kind_only_by number ssrc past_of below_top j g ∙ sym (kind_is k e)
 
   -- where the history of the stream is empty, an arrival is the first
-  first_of_none : past_of ≡ [] → (k : ArrivalKind) → answer ≡ arrival.Accepted k → k ≡ kind.First
+  first_of_none : past_of ≡ [] → (k : ArrivalKind) → answer ≡ Ok k → k ≡ kind.First
   first_of_none none k e = kind_is k e ∙ ap (λ (l : List Accepted). model_kind (place_by ssrc l) number) none
 
   -- rule "Late at H": an arrival with the highest number is a copy
-  pub highest_again : (past_of ≡ [] → ⊥) → number ≡ top_of past_of % sequence_numbers → (k : ArrivalKind) → answer ≡ arrival.Accepted k → k ≡ kind.Copy
+  pub highest_again : (past_of ≡ [] → ⊥) → number ≡ top_of past_of % sequence_numbers → (k : ArrivalKind) → answer ≡ Ok k → k ≡ kind.Copy
   highest_again some h k e = sym (kind_only k e kind.Copy (copied past_of refl))
     where
       copied : (l : List Accepted) → past_of ≡ l → KindGiven past_of number kind.Copy
@@ -187,10 +183,10 @@ module _ (st : Store) (new : Fresh st) (cs : List Call) (range : All CallInRange
           same = ap top_of (sym p) ∙ sym (full_again (top_of past_of) number h)
 
 -- rule "After forgetting": the next arrival of a stream that was forgotten is the first
-pub first_after_forgetting : (st : Store) → Fresh st → (cs : List Call) → All CallInRange cs → (ssrc number mark : ℕ) (time : Time)
+pub first_after_forgetting : (st : Store) → Fresh st → (cs : List Call) → All CallInRange cs → (ssrc number mark : ℕ) (time : Option ℕ)
     → CallInRange (arrive ssrc number mark time) → (k : ArrivalKind)
     → let after : Store = store_run st (cs ++ (forget ssrc ∷ [])) in
-    (arrived after.places after.cells ssrc number mark time).answer ≡ arrival.Accepted k → k ≡ kind.First
+    (arrived after.places after.cells ssrc number mark time).answer ≡ Ok k → k ≡ kind.First
 first_after_forgetting st new cs range ssrc number mark time r =
     first_of_none st new (cs ++ (forget ssrc ∷ [])) (all_append CallInRange cs (forget ssrc) range r.0) ssrc number mark time r
     (history.forgotten_history st new cs range ssrc r.0)
@@ -206,11 +202,11 @@ heard_join ssrc (c ∷ cs) ds st past = heard_join ssrc cs ds (store_step st c) 
 -- the next accepted arrival of a stream that was forgotten is the first: of the calls since then, ds, none was an
 -- accepted arrival of it
 pub first_since_forgetting : (st : Store) → Fresh st → (cs ds : List Call) → All CallInRange cs → All CallInRange ds
-    → (ssrc number mark : ℕ) (time : Time) → CallInRange (arrive ssrc number mark time)
+    → (ssrc number mark : ℕ) (time : Option ℕ) → CallInRange (arrive ssrc number mark time)
     → let forgot : List Call = cs ++ (forget ssrc ∷ []) in
     let after : Store = store_run st (forgot ++ ds) in
     accepted_of ssrc ds (store_answers (store_run st forgot) ds) ≡ [] → (k : ArrivalKind)
-    → (arrived after.places after.cells ssrc number mark time).answer ≡ arrival.Accepted k → k ≡ kind.First
+    → (arrived after.places after.cells ssrc number mark time).answer ≡ Ok k → k ≡ kind.First
 first_since_forgetting st new cs ds range since ssrc number mark time r none =
     let forgot : List Call = cs ++ (forget ssrc ∷ []) in
     first_of_none st new (forgot ++ ds) (all_join CallInRange forgot ds (all_append CallInRange cs (forget ssrc) range r.0) since) ssrc number mark time r

@@ -9,12 +9,11 @@ use borrow.Author.Tests.{lt-ltb, le-ltb}
 use lib.ListN.{set, length-set}
 use lib.Seq.{get_or-set_same, get_or-set_other}
 use Rattle.lists.specs.All.{All}
-use Rattle.lists.specs.declared.Found.{Found}
-use Rattle.metric.specs.declared.Time.{Time}
+use Rattle.std.specs.Prelude.{Option, Some, None, Ok, Err}
+use Rattle.places.specs.declared.Stream.{Stream}
 use Rattle.metric.specs.Metric.{TimeInRange, congested}
 use Rattle.window.specs.Number.{sequence_numbers}
 use Rattle.places.specs.Place.{read_place, place_at, find_of}
-use Rattle.places.specs.declared.Holding.{Holding}
 use Rattle.places.proofs.Places.{read_zero}
 use Rattle.places.proofs.Shape.{shaped_is}
 use Rattle.streams.specs.Model.{Place, free, stream, names, at, find_in}
@@ -32,12 +31,10 @@ use Rattle.history.specs.Model.{model_arrived, forgot_at, model_forgot, model_pl
 use Rattle.history.specs.Reading.{arrival_meaning, Reads}
 use Rattle.history.proofs.Cells.{arrival_laws, arrival_enters}
 use Rattle.history.proofs.KindAlike.{same_admitted}
-use Rattle.lists.specs.declared.Found.TheVariants.{At, Nothing}
-use Rattle.admission.specs.declared.Arrival.TheVariants as arrival
 
 module _ (st : Store) (ps : List (Place Entry)) (R : Reads st ps) where
   -- an arrival
-  pub arrive_alike : (ssrc number mark : ℕ) (time : Time) → ssrc < 2 ^ 32 → number < sequence_numbers → TimeInRange time
+  pub arrive_alike : (ssrc number mark : ℕ) (time : Option ℕ) → ssrc < 2 ^ 32 → number < sequence_numbers → TimeInRange time
       → Alike arrival_meaning (arrived st.places st.cells ssrc number mark time) (model_arrived ps ssrc number mark time)
   arrive_alike ssrc number mark time s n t =
       let a : Accepted = record { number = number; mark = mark; time = time } in
@@ -46,22 +43,22 @@ module _ (st : Store) (ps : List (Place Entry)) (R : Reads st ps) where
         | yes m ↦
             rw (le-ltb congested mark m, ← same_admitted st ps R (entry_of a) ssrc number n)
             (admit_alike arrival_meaning arrival_laws st ps R (word_after mark time) (entry_of a) (λ full. refl) (arrival_enters a m t)
-            ssrc number n (arrival.Accepted (kind_at (find_of st.places ssrc) st.places st.cells number)) arrival.Refused s)
+            ssrc number n (Ok (kind_at (find_of st.places ssrc) st.places st.cells number)) Err s)
         | no m ↦ rw (lt-ltb congested mark (omega arith)) (record { answer = refl; reads = R })
       ])
 
   -- forgetting a stream
-  forgot_alike : (f : Found) (ssrc : ℕ) → find_in ps ssrc ≡ f
+  forgot_alike : (f : Option ℕ) (ssrc : ℕ) → find_in ps ssrc ≡ f
       → ((forgotten_at f st.places).answer ≡ (forgot_at f ps).answer)
       × Reads (record { places = (forgotten_at f st.places).places; cells = st.cells }) (forgot_at f ps).places
-  forgot_alike (At k) ssrc e =
+  forgot_alike (Some k) ssrc e =
       let l = there_in arrival_meaning st ps R (λ (i : ℕ). names ssrc (at ps i)) k e in (
         refl,
         replaced arrival_meaning st ps R k (set st.places k 0) st.cells free l (length-set st.places k 0) refl
             (λ q n. get_or-set_other st.places k q 0 0 n) (λ q m n. refl)
             (ap read_place (get_or-set_same st.places k 0 0 l) ∙ read_zero),
       )
-  forgot_alike Nothing ssrc e = (refl, R)
+  forgot_alike None ssrc e = (refl, R)
 
   pub forget_alike : (ssrc : ℕ) → ((forgotten st.places st.cells ssrc).answer ≡ (model_forgot ps ssrc).answer)
       × Reads (record { places = (forgotten st.places st.cells ssrc).places; cells = st.cells }) (model_forgot ps ssrc).places
@@ -77,7 +74,7 @@ module _ (st : Store) (ps : List (Place Entry)) (R : Reads st ps) where
       (ap to_forgetting a.0, a.1)
 
   -- the place question
-  placed : (h : Holding) (k : ℕ) (P : Place Entry) → ReadsAt arrival_meaning st.cells k h P → answer_of h ≡ model_place P
+  placed : (h : Option Stream) (k : ℕ) (P : Place Entry) → ReadsAt arrival_meaning st.cells k h P → answer_of h ≡ model_place P
   placed h k free r = rw r
   placed h k (stream x top es) r = rw r.place
 

@@ -1,26 +1,24 @@
 -- Rules: "What a store means". The calls that change a store, in the order in which they are made,
 -- and the answers to them; and the accepted arrivals of a stream, as the answers say.
 use Rattle.std.specs.Prelude.{ℕ, ◌<◌, ◌^◌, Bool, true, false, cond, ◌&&◌, List, [], ◌∷◌, ◌++◌, eqb}
-use Rattle.metric.specs.declared.Time.{Time}
+use Rattle.std.specs.Prelude.{Option, Result, Ok, Err}
+use Rattle.admission.specs.declared.ArrivalKind.{ArrivalKind}
+use Rattle.refusal.specs.declared.Refusal.{Refusal}
 use Rattle.metric.specs.Metric.{TimeInRange}
 use Rattle.arrivals.specs.Arrivals.{arrived}
 use Rattle.store.specs.Store.{forgotten}
-use Rattle.admission.specs.declared.Arrival.{Arrival}
-use Rattle.store.specs.declared.Forgetting.{Forgetting}
 use Rattle.window.specs.Number.{sequence_numbers}
 use Rattle.streams.specs.Reading.{Store}
 use Rattle.streams.specs.Runs.{run, answers}
-use Rattle.admission.specs.declared.Arrival.TheVariants as arrival
-use Rattle.store.specs.declared.Forgetting.TheVariants as forgetting
 
 -- arrive: SSRC, sequence number, mark, time. forget: SSRC
 pub data Call : Type 0 where
-  arrive : ℕ → ℕ → ℕ → Time → Call
+  arrive : ℕ → ℕ → ℕ → Option ℕ → Call
   forget : ℕ → Call
 
 pub data CallAnswer : Type 0 where
-  to_arrival : Arrival → CallAnswer
-  to_forgetting : Forgetting → CallAnswer
+  to_arrival : Result ArrivalKind Refusal → CallAnswer
+  to_forgetting : Result (Unit {0}) Refusal → CallAnswer
 
 abbrev pub store_step : Store → Call → Store
 store_step st (arrive ssrc number mark time) =
@@ -42,13 +40,13 @@ store_answers st cs = answers store_step store_answer st cs
 pub record Accepted : Type 0 where
   pub number : ℕ
   pub mark : ℕ
-  pub time : Time
+  pub time : Option ℕ
 
 abbrev pub is_done : CallAnswer → Bool
-is_done (to_arrival (arrival.Accepted kind)) = true
-is_done (to_arrival (arrival.Refused e)) = false
-is_done (to_forgetting forgetting.Forgotten) = true
-is_done (to_forgetting (forgetting.Refused e)) = false
+is_done (to_arrival (Ok kind)) = true
+is_done (to_arrival (Err e)) = false
+is_done (to_forgetting (Ok tt)) = true
+is_done (to_forgetting (Err e)) = false
 
 -- a stream's accepted arrivals after one more call, which was done or refused
 abbrev pub heard : ℕ → List Accepted → Call → Bool → List Accepted

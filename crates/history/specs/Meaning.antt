@@ -1,20 +1,18 @@
 -- Rules: "What a store means". What the cells of a stream mean, by its accepted arrivals alone. Each
 -- arrival has a full number (of `streams`): its sequence number, but without wrapping.
-use Rattle.std.specs.Prelude.{ℕ, ◌≤◌, ◌<◌, max, Bool, false, cond, ◌||◌, ◌≡◌, eqb}
+use Rattle.std.specs.Prelude.{ℕ, ◌≤◌, ◌<◌, max, Bool, false, cond, ◌||◌, ◌≡◌, eqb, Option, Some, None}
 use mathlib.Core.List.{List, [], ◌∷◌, Memᴰ}
-use Rattle.metric.specs.declared.Time.{Time}
-use Rattle.metric.specs.declared.Cell.{Cell}
+use Rattle.metric.specs.declared.Arrived.{Arrived}
 use Rattle.metric.specs.Metric.{TimeInRange, congested}
 use Rattle.window.specs.Number.{sequence_numbers}
 use Rattle.streams.specs.Full.{full_of, first_full, lowest_full}
 use Rattle.history.specs.Calls.{Accepted}
-use Rattle.metric.specs.declared.Cell.TheVariants.{Empty, Filled}
 
 -- an accepted arrival with its full number
 pub record Entry : Type 0 where
   pub full : ℕ
   pub mark : ℕ
-  pub time : Time
+  pub time : Option ℕ
 
 abbrev pub entry_of : Accepted → ℕ → Entry
 entry_of a full = record { full = full; mark = a.mark; time = a.time }
@@ -47,26 +45,26 @@ any_ce (e ∷ es) = eqb e.mark congested || any_ce es
 
 -- rule "Filled", of the copies of a number: filled if there is one, with the first one's time, and
 -- ECN-CE if any carried it, else the first one's mark
-abbrev pub cell_of : List Entry → Cell
-cell_of [] = Empty
-cell_of (e ∷ es) = Filled (cond (any_ce (e ∷ es)) congested e.mark) e.time
+abbrev pub cell_of : List Entry → Option Arrived
+cell_of [] = None
+cell_of (e ∷ es) = Some (record { mark = cond (any_ce (e ∷ es)) congested e.mark; time = e.time })
 
 -- what the entries say of the full number n
-abbrev pub cell_by : List Entry → ℕ → Cell
+abbrev pub cell_by : List Entry → ℕ → Option Arrived
 cell_by es n = cell_of (copies_of es n)
 
 -- the same as `cell_by`, rule by rule
-pub record AsArrivals (c : Cell) (es : List Entry) (n : ℕ) : Type 0 where
+pub record AsArrivals (c : Option Arrived) (es : List Entry) (n : ℕ) : Type 0 where
   -- filled exactly if one of them had the full number
-  pub filled : (e : Entry) → Memᴰ e es → e.full ≡ n → c ≡ Empty → ⊥
-  pub only : (mark : ℕ) (time : Time) → c ≡ Filled mark time → (e : Entry) × (Memᴰ e es × (e.full ≡ n))
+  pub filled : (e : Entry) → Memᴰ e es → e.full ≡ n → c ≡ None → ⊥
+  pub only : (mark : ℕ) (time : Option ℕ) → c ≡ Some (record { mark = mark; time = time }) → (e : Entry) × (Memᴰ e es × (e.full ≡ n))
   -- with the first one's time
-  pub first : (mark : ℕ) (time : Time) (e : Entry) (rest : List Entry) → c ≡ Filled mark time → copies_of es n ≡ e ∷ rest
+  pub first : (mark : ℕ) (time : Option ℕ) (e : Entry) (rest : List Entry) → c ≡ Some (record { mark = mark; time = time }) → copies_of es n ≡ e ∷ rest
       → time ≡ e.time
   -- ECN-CE if any of them carried it
-  pub ce : (mark : ℕ) (time : Time) (e : Entry) → c ≡ Filled mark time → Memᴰ e es → e.full ≡ n → e.mark ≡ congested → mark ≡ congested
+  pub ce : (mark : ℕ) (time : Option ℕ) (e : Entry) → c ≡ Some (record { mark = mark; time = time }) → Memᴰ e es → e.full ≡ n → e.mark ≡ congested → mark ≡ congested
   -- else the first one's mark
-  pub other : (mark : ℕ) (time : Time) (e : Entry) (rest : List Entry) → c ≡ Filled mark time → copies_of es n ≡ e ∷ rest
+  pub other : (mark : ℕ) (time : Option ℕ) (e : Entry) (rest : List Entry) → c ≡ Some (record { mark = mark; time = time }) → copies_of es n ≡ e ∷ rest
       → ((d : Entry) → Memᴰ d es → d.full ≡ n → d.mark ≡ congested → ⊥) → mark ≡ e.mark
 
 -- an entry's full number is one of a window, its mark one of the four, its time a 32-bit count

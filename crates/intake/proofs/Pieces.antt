@@ -8,20 +8,18 @@ use borrow.Author.Tests.{lt-ltb, le-ltb}
 use lib.Dec.{ltb}
 use lib.ListN.{length, take, drop, length-drop}
 use lib.Seq.{sets, sets-eq, take_at}
+use Rattle.std.specs.Prelude.{Result, Ok, Err}
 use Rattle.lists.proofs.Cases.{split_le}
+use Rattle.refusal.specs.declared.Refusal.{Refusal}
 use Rattle.arrival_record.specs.Record.{record_read_of, record_octets}
 use Rattle.arrival_record.specs.declared.Record.{Record}
-use Rattle.arrival_record.specs.declared.RecordRead.{RecordRead}
 use Rattle.arrival_file.specs.File.{header_of, file_of, file_header_octets}
 use Rattle.arrival_file.specs.Pieces.{Feeding, feeding, on_entry, taken, taken_behind, taken_here, fed, ended, all_taken}
-use Rattle.arrival_file.specs.declared.Check.{Check}
 use Rattle.arrival_file.specs.declared.Phase.{Phase}
 use Rattle.arrival_file.proofs.Pieces.{pieces}
 use Rattle.recording.specs.Recorded.{Recorded, recorded, after_record}
 use Rattle.intake.specs.Intake.{IntakeAfter, intake_after, kept, fed_of, left_of, fed_next, held_in}
 use Rattle.intake.specs.declared.Intake.{Intake}
-use Rattle.arrival_record.specs.declared.RecordRead.TheVariants as entry
-use Rattle.arrival_file.specs.declared.Check.TheVariants.{Sound, Refused}
 use Rattle.arrival_file.specs.declared.Phase.TheVariants.{Header, Records, Faulty}
 use Rattle.intake.specs.Intake as intake
 
@@ -33,14 +31,14 @@ module _ {S : Type 0} (step : S → Record → S) where
   taken_left zero x s = omega arith
   taken_left (suc n) x s = go (record_read_of s) (λ r. taken_left n (step x r) (drop record_octets s))
     where
-      go : (y : RecordRead) → ((r : Record) → length (taken step n (step x r) (drop record_octets s)).left ≤ length (drop record_octets s))
+      go : (y : Result Record Refusal) → ((r : Record) → length (taken step n (step x r) (drop record_octets s)).left ≤ length (drop record_octets s))
           → length (on_entry y x (λ r. taken step n (step x r) (drop record_octets s))).left ≤ length s
-      go (entry.Record r) h = omega (arith, h r, length-drop record_octets s)
-      go (entry.Refused q) h = omega arith
+      go (Ok r) h = omega (arith, h r, length-drop record_octets s)
+      go (Err q) h = omega arith
 
-  behind_left : (v : Check) (x : S) (s t : List ℕ) → length t ≤ length s → length (taken_behind step v x t).left ≤ length s
-  behind_left Sound x s t h = omega (arith, taken_left (length t / record_octets) x t)
-  behind_left (Refused e) x s t h = omega arith
+  behind_left : (v : Result (Unit {0}) Refusal) (x : S) (s t : List ℕ) → length t ≤ length s → length (taken_behind step v x t).left ≤ length s
+  behind_left (Ok tt) x s t h = omega (arith, taken_left (length t / record_octets) x t)
+  behind_left (Err e) x s t h = omega arith
 
   taken_here_left : (p : Phase) (x : S) (s : List ℕ) → length (taken_here step p x s).left ≤ length s
   unfolding taken_here
@@ -49,7 +47,7 @@ module _ {S : Type 0} (step : S → Record → S) where
       go : (b : Bool) → length (cond b (feeding Header x s) (taken_behind step (header_of s) x (drop file_header_octets s))).left ≤ length s
       go true = omega arith
       go false = behind_left (header_of s) x s (drop file_header_octets s) (omega (arith, length-drop file_header_octets s))
-  taken_here_left Records x s = behind_left Sound x s s (omega arith)
+  taken_here_left Records x s = behind_left (Ok tt) x s s (omega arith)
   taken_here_left (Faulty e) x s = omega arith
 
 -- fewer octets are left than a record has
@@ -59,14 +57,14 @@ module _ {S : Type 0} (step : S → Record → S) where
   taken_short zero x s e = omega arith
   taken_short (suc n) x s e = go (record_read_of s) (λ r. taken_short n (step x r) (drop record_octets s) (omega (arith, length-drop record_octets s)))
     where
-      go : (y : RecordRead) → ((r : Record) → length (taken step n (step x r) (drop record_octets s)).left < record_octets)
+      go : (y : Result Record Refusal) → ((r : Record) → length (taken step n (step x r) (drop record_octets s)).left < record_octets)
           → length (on_entry y x (λ r. taken step n (step x r) (drop record_octets s))).left < record_octets
-      go (entry.Record r) h = h r
-      go (entry.Refused q) h = omega arith
+      go (Ok r) h = h r
+      go (Err q) h = omega arith
 
-  behind_short : (v : Check) (x : S) (s : List ℕ) → length (taken_behind step v x s).left < record_octets
-  behind_short Sound x s = taken_short (length s / record_octets) x s refl
-  behind_short (Refused e) x s = omega arith
+  behind_short : (v : Result (Unit {0}) Refusal) (x : S) (s : List ℕ) → length (taken_behind step v x s).left < record_octets
+  behind_short (Ok tt) x s = taken_short (length s / record_octets) x s refl
+  behind_short (Err e) x s = omega arith
 
   taken_here_short : (p : Phase) (x : S) (s : List ℕ) → length (taken_here step p x s).left < record_octets
   unfolding taken_here
@@ -74,7 +72,7 @@ module _ {S : Type 0} (step : S → Record → S) where
       split_le file_header_octets (length s)
       (λ h. rw (le-ltb (length s) file_header_octets h) (behind_short (header_of s) x (drop file_header_octets s)))
       (λ h. rw (lt-ltb (length s) file_header_octets h) (omega arith))
-  taken_here_short Records x s = behind_short Sound x s
+  taken_here_short Records x s = behind_short (Ok tt) x s
   taken_here_short (Faulty e) x s = omega arith
 
 pub short_left : (places cells s s' : List ℕ) (places' cells' : List ℕ) (i r : Intake)

@@ -37,15 +37,12 @@ pub fn feed(places: &mut [u64], cells: &mut [u64], intake: Intake, octets: &mut 
     ensures after { intake_after result places.new cells.new octets.new
         ≡ fed_of places.old cells.old intake octets.old }
 {
-    let before = intake.phase;
-    let t = taking::take(places, cells, octets, before, intake.rts, intake.gap);
-    let phase = t.phase;
-    let at = t.at;
-    octets_move::move_to_front(octets, at);
+    let taken = taking::take(places, cells, octets, intake.phase, intake.rts, intake.gap);
+    octets_move::move_to_front(octets, taken.at);
     Intake {
-        phase: phase,
-        rts: t.rts,
-        gap: t.gap,
-        left: octets.len() - at,
+        phase: taken.phase,
+        rts: taken.rts,
+        gap: taken.gap,
+        left: octets.len() - taken.at,
     }
 }

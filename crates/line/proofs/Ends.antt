@@ -7,7 +7,7 @@ use lib.ListN.{length}
 use Rattle.octets.specs.Output.{OutputAfter, output_after}
 use Rattle.refusal.specs.declared.Refusal.{Refusal}
 use Rattle.arrival_file.specs.File.{end_of}
-use Rattle.arrival_file.specs.declared.Check.{Check}
+use Rattle.std.specs.Prelude.{Result, Ok, Err}
 use Rattle.intake.specs.declared.Intake.{Intake}
 use Rattle.line_refusal.specs.Refused.{refused_line}
 use Rattle.line_newest.specs.Newest.{report_text}
@@ -16,14 +16,13 @@ use Rattle.line_report.specs.Report.{line_room}
 use Rattle.line_gap.specs.Gap.{gap_line, put_text_at}
 use Rattle.line_gap.proofs.Puts.{then_put, length_gap}
 use Rattle.line.specs.Line.{text_room, finished_text}
-use Rattle.arrival_file.specs.declared.Check.TheVariants as check
 
-module _ (places cells : List ℕ) (i : Intake) (v : Check) (e : v ≡ end_of i.phase i.left) where
-  pub whole_text : v ≡ check.Sound → finished_text places cells i ≡ report_text places cells i.rts ++ gap_line i.gap
+module _ (places cells : List ℕ) (i : Intake) (v : Result (Unit {0}) Refusal) (e : v ≡ end_of i.phase i.left) where
+  pub whole_text : v ≡ Ok tt → finished_text places cells i ≡ report_text places cells i.rts ++ gap_line i.gap
   unfolding finished_text
   whole_text h = rw (← e, h)
 
-  pub faulty_text : (q : Refusal) → v ≡ check.Refused q → finished_text places cells i ≡ refused_line q
+  pub faulty_text : (q : Refusal) → v ≡ Err q → finished_text places cells i ≡ refused_line q
   unfolding finished_text
   faulty_text q h = rw (← e, h)
 

@@ -1,9 +1,10 @@
 -- Rules: "ccfbline". What is printed for a file: the report on a store of four places that took its
 -- records and then the gap, or its first fault.
-use Rattle.std.specs.Prelude.{ℕ}
+use Rattle.std.specs.Prelude.{ℕ, Result, Ok, Err}
 use mathlib.Core.List.{List, ◌++◌, foldl}
+use Rattle.refusal.specs.declared.Refusal.{Refusal}
 use Rattle.arrival_record.specs.declared.Record.{Record}
-use Rattle.arrival_file.specs.File.{Result, sound, faulty, file_of}
+use Rattle.arrival_file.specs.File.{file_of}
 use Rattle.recording.specs.Recorded.{Recorded, recorded, after_record}
 use Rattle.line_refusal.specs.Refused.{refused_line}
 use Rattle.line_store.specs.Fresh.{fresh_places, fresh_cells}
@@ -17,9 +18,9 @@ fresh = recorded fresh_places fresh_cells 0 0
 abbrev pub report_of : Recorded → List ℕ
 report_of x = report_lines x.places x.cells x.rts ++ gap_line x.gap
 
-abbrev pub printed_of : Result (List Record) → List ℕ
-printed_of (sound rs) = report_of (foldl after_record fresh rs)
-printed_of (faulty e) = refused_line e
+abbrev pub printed_of : Result (List Record) Refusal → List ℕ
+printed_of (Ok rs) = report_of (foldl after_record fresh rs)
+printed_of (Err e) = refused_line e
 
 unfoldable pub printed : List ℕ → List ℕ
 printed file = printed_of (file_of file)

@@ -7,7 +7,6 @@ ghost use Rattle.octets.specs.Output.{output_after};
 ghost use Rattle.line_hex.specs.Hex.{put_text};
 ghost use Rattle.line.specs.Line.{text_room, finished_text};
 
-use arrival_file::Check;
 use intake::Intake;
 
 // Writes what is to be printed to the front of the output, which has room for a line on 16 streams and that of the gap:
@@ -18,13 +17,11 @@ pub fn finish(places: &[u64], cells: &[u64], intake: Intake, out: &mut [u8]) -> 
         ≡ put_text out.old (finished_text places.now cells.now intake) }
     ensures bound { result ≤ text_room }
 {
-    let phase = intake.phase;
-    let end = arrival_file::check_end(phase, intake.left);
-    match end {
-        Check::Sound => {
+    match arrival_file::check_end(intake.phase, intake.left) {
+        Ok(()) => {
             let n = line_newest::report(places, cells, intake.rts, out);
             line_gap::put_gap(out, n, intake.gap)
         }
-        Check::Refused(e) => line_refusal::put_refusal(out, e),
+        Err(e) => line_refusal::put_refusal(out, e),
     }
 }

@@ -31,19 +31,6 @@ module _ (n unit : ℕ) where
         | no l ↦ rw (digit_some (omega arith)) (omega arith)
       ]
 
-  pub digit_below : (out : List ℕ) (at : ℕ) → n < unit → output_after at out ≡ put_text_at out at (digit_at n unit)
-  digit_below out at l = let z : at + 0 ≡ at = omega arith in rw (digit_none l, z)
-
-  pub digit_put : (out : List ℕ) (at : ℕ) → unit ≤ n
-      → output_after (at + 1) (set out at (zero_digit + n / unit % 10)) ≡ put_text_at out at (digit_at n unit)
-  digit_put out at l = rw (digit_some l)
-
--- the offset behind a digit
-pub digit_end : (out out' : List ℕ) (at at' n unit : ℕ) → output_after at' out' ≡ put_text_at out at (digit_at n unit) → at' ≤ at + 1
-digit_end out out' at at' n unit e =
-    let h : at' ≡ at + length (digit_at n unit) = ap (λ (o : OutputAfter ℕ). o.answer) e in
-    omega (arith, digit_length n unit)
-
 -- ---- text after text
 
 pub then_put : (out mid last : List ℕ) (at i j : ℕ) (xs ys : List ℕ) → output_after i mid ≡ put_text_at out at xs → output_after j last ≡ put_text_at mid i ys

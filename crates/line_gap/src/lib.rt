@@ -2,30 +2,19 @@
 #![tactic(auto)]
 
 ghost use Rattle.std.specs.Prelude.{◌≡◌, ◌+◌, ◌<◌, ◌≤◌, length};
-ghost use Rattle.std.proofs.lemmas.List.Edits.{sets};
 ghost use Rattle.octets.specs.Output.{output_after};
-ghost use Rattle.line_gap.specs.Gap.{gap_text, gap_octets, digit_at, gap_line, gap_room, put_text_at};
+ghost use Rattle.line_gap.specs.Gap.{digit_at, gap_line, gap_room, put_text_at};
 
-// The octets of `gap `.
-const GAP_OCTETS: usize = 4;
-
-// Writes `gap ` at an offset of the output.
-fn put_word(out: &mut [u8], at: usize)
-    requires room { at + gap_octets ≤ length out.old }
-    ensures content { out.new ≡ sets out.old at gap_text }
-{
-    out[at] = b'g';
-    out[at + 1] = b'a';
-    out[at + 2] = b'p';
-    out[at + 3] = b' ';
-}
+const GAP: &[u8] = b"gap ";
 
 // Writes one digit of n, that of the tens for unit 10 and so on, at an offset of the output, unless n is below the
 // unit: the offset behind it.
+#[tactic(auto, unfolding(crate::specs::Gap::digit_at))]
 fn put_digit(out: &mut [u8], at: usize, n: u16, unit: u16) -> usize
     requires some { 0 < unit }
     requires room { at < length out.old }
     ensures after { output_after result out.new ≡ put_text_at out.old at (digit_at n unit) }
+    ensures bound { result ≤ at + 1 }
 {
     if n < unit {
         return at;
@@ -39,8 +28,8 @@ pub fn put_gap(out: &mut [u8], at: usize, gap: u16) -> usize
     requires room { at + gap_room ≤ length out.old }
     ensures after { output_after result out.new ≡ put_text_at out.old at (gap_line gap) }
 {
-    put_word(out, at);
-    let after_ten_thousands = put_digit(out, at + GAP_OCTETS, gap, 10000);
+    line_hex::put_text(out, at, GAP);
+    let after_ten_thousands = put_digit(out, at + GAP.len(), gap, 10000);
     let after_thousands = put_digit(out, after_ten_thousands, gap, 1000);
     let after_hundreds = put_digit(out, after_thousands, gap, 100);
     let end = put_digit(out, after_hundreds, gap, 10);

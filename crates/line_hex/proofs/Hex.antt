@@ -1,14 +1,22 @@
 -- Laws for writing hex to the front of an output. Assumes nothing.
-use Prim.Native.Nat.{ℕ, suc, ◌+◌, ◌*◌, ◌/◌, ◌%◌, ◌<◌, ◌≤◌}
+use Prim.Native.Nat.{ℕ, suc, ◌+◌, ◌-◌, ◌*◌, ◌/◌, ◌%◌, ◌<◌, ◌≤◌}
 use mathlib.Core.Path.{◌≡◌, refl}
-use mathlib.Core.List.{List, [], ◌∷◌}
+use mathlib.Core.List.{List, [], ◌∷◌, append_assoc}
 use native.Mathlib.Omega.{arith}
 use native.Mathlib.Numerals.{add-one}
 use lib.ListN.{length, get_or, set, drop, length-append, drop_of_length-le}
-use lib.Seq.{sets, drop-cons}
+use lib.Seq.{sets, sets-eq, drop-cons, drop-drop}
+use borrow.Rule.Slice.PartMut.{put_mid}
 use Rattle.octets.specs.Output.{output_after}
 use Rattle.octets.proofs.Sets.{sets_append}
 use Rattle.line_hex.specs.Hex.{digit_of, hex_of, newline, hex_line, put_text}
+
+-- a text that was copied into the part at an offset was written there
+pub text_put : (out part text : List ℕ) (at : ℕ) → at + length text ≤ length out → part ≡ text
+    → put_mid at (at + length text - at) out part ≡ sets out at text
+text_put out part text at h e =
+    let n : at + length text - at ≡ length text = omega arith in
+    rw (e, n, sets-eq text out at h, append_assoc, drop-drop (length text) at out)
 
 -- one octet more
 pub one_put : (out packet : List ℕ) (i : ℕ) → i < length packet

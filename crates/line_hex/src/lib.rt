@@ -9,6 +9,14 @@ ghost use Rattle.line_hex.specs.Hex.{digit_of, hex_of, hex_line, put_text};
 // The digits 10 to 15 are the letters starting at `a`: LETTERS + 10 is `a`.
 const LETTERS: u8 = 87;
 
+// Writes a text at an offset of the output.
+pub fn put_text(out: &mut [u8], at: usize, text: &[u8])
+    requires room { at + length text.now ≤ length out.old }
+    ensures content { out.new ≡ sets out.old at text.now }
+{
+    out[at..at + text.len()].copy_from_slice(text);
+}
+
 // A digit of lower-case hex.
 fn hex_digit(n: u8) -> u8
     requires digit { n < 16 }
@@ -22,12 +30,9 @@ fn put_hex(out: &mut [u8], packet: &[u8])
     requires room { 2 * length packet.now ≤ length out.old }
     ensures content { out.new ≡ sets out.old 0 (hex_of packet.now) }
 {
-    let mut i = 0;
-    while i < packet.len() {
-        let x = packet[i];
-        out[2 * i] = hex_digit(x / 16);
-        out[2 * i + 1] = hex_digit(x % 16);
-        i += 1;
+    for (i, x) in packet.iter().enumerate() {
+        out[2 * i] = hex_digit(*x / 16);
+        out[2 * i + 1] = hex_digit(*x % 16);
     }
 }
 

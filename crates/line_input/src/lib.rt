@@ -12,23 +12,17 @@ use arrival_file::Phase;
 use intake::Intake;
 use std::io;
 use std::io::Read;
+use std::ops::ControlFlow;
 
-// What one read leads to: more input, or all that is needed of it.
-#[derive(Clone, Copy)]
-enum Turn {
-    More(Intake),
-    Done(Intake),
-}
-
-// Reads once into the buffer, after the octets that are left, and takes what came. A file is read to its end or its
-// first fault.
+// Reads once into the buffer, after the octets that are left, and takes what came: more is needed, until the file is at
+// its end or has a fault.
 fn take_once<R: Read>(
     input: &mut R,
     places: &mut [u64],
     cells: &mut [u64],
     buf: &mut [u8],
     intake: Intake,
-) -> io::Result<Turn>
+) -> io::Result<ControlFlow<Intake, Intake>>
     requires few { intake.left < record_octets }
     requires room { buffer_octets ≤ length buf.old }
     requires shape { Shaped places.old cells.old }
@@ -36,18 +30,15 @@ fn take_once<R: Read>(
         result places.new cells.new buf.new }
     ensures few { Short result }
 {
-    let left = intake.left;
-    let n = input.read(&mut buf[left..])?;
+    let n = input.read(&mut buf[intake.left..])?;
     if n == 0 {
-        return Ok(Turn::Done(intake));
+        return Ok(ControlFlow::Break(intake));
     }
-    let end = left + n;
-    let fed = intake::feed(places, cells, intake, &mut buf[..end]);
-    let phase = fed.phase;
-    if let Phase::Faulty(_) = phase {
-        return Ok(Turn::Done(fed));
+    let fed = intake::feed(places, cells, intake, &mut buf[..intake.left + n]);
+    match fed.phase {
+        Phase::Faulty(_) => Ok(ControlFlow::Break(fed)),
+        _ => Ok(ControlFlow::Continue(fed)),
     }
-    Ok(Turn::More(fed))
 }
 
 // Takes the input, of any length. A proved loop has to end, and nothing says that an input does: the turns are bounded by
@@ -65,12 +56,9 @@ pub fn take_input<R: Read>(
 {
     let mut intake = intake::start();
     for _ in 0..u64::MAX {
-        match take_once(input, places, cells, buf, intake) {
-            Ok(turn) => match turn {
-                Turn::More(next) => intake = next,
-                Turn::Done(last) => return Ok(last),
-            },
-            Err(e) => return Err(e),
+        match take_once(input, places, cells, buf, intake)? {
+            ControlFlow::Continue(next) => intake = next,
+            ControlFlow::Break(last) => return Ok(last),
         }
     }
     Err(io::Error::other("the input does not end"))

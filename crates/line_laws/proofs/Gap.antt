@@ -6,7 +6,8 @@ use mathlib.Core.Logic.{◌⊎◌, ⊎_elim}
 use native.Mathlib.Omega.{arith}
 use native.Mathlib.Decide.{dec_le}
 use Rattle.lists.proofs.Cases.{never}
-use Rattle.admission.specs.declared.Arrival.{Arrival}
+use Rattle.std.specs.Prelude.{Result, Ok, Err}
+use Rattle.admission.specs.declared.ArrivalKind.{ArrivalKind}
 use Rattle.arrival_record.specs.declared.Record.{Record}
 use Rattle.recording.specs.Recorded.{Recorded, gap_after, after_record}
 use Rattle.line.specs.Printed.{fresh, printed}
@@ -15,7 +16,7 @@ use Rattle.history.proofs.Refusals.{passed_over_bound}
 use Rattle.places.specs.Place.{read_place}
 use Rattle.cutting.specs.Plan.{packets_from}
 use Rattle.refusal.specs.declared.Refusal.{Refusal}
-use Rattle.arrival_file.specs.File.{sound, faulty, file_of}
+use Rattle.arrival_file.specs.File.{file_of}
 use Rattle.line_refusal.specs.Refused.{refused_line}
 use Rattle.line_hex.specs.Hex.{zero_digit, newline}
 use Rattle.line_store.specs.Fresh.{fresh_places, fresh_cells}
@@ -25,31 +26,30 @@ use Rattle.line_gap.specs.Gap.{gap_text, digit_at, gap_digits, gap_line}
 use Rattle.line_laws.specs.Laws.{answer_to, PassesOver, GapIs, PrintsGap}
 use Rattle.line_laws.specs.Decimal.{InDecimal}
 use Rattle.line_laws.proofs.Decimal.{in_decimal}
-use Rattle.admission.specs.declared.Arrival.TheVariants as arrival
 use Rattle.admission.specs.declared.ArrivalKind.TheVariants as kind
 
 -- ---- one more answer
-gap_least : (gap : ℕ) (a : Arrival) → gap ≤ gap_after gap a
-gap_least gap (arrival.Accepted kind.First) = omega arith
-gap_least gap (arrival.Accepted (kind.Ahead n)) = omega arith
-gap_least gap (arrival.Accepted kind.Late) = omega arith
-gap_least gap (arrival.Accepted kind.Copy) = omega arith
-gap_least gap (arrival.Refused e) = omega arith
+gap_least : (gap : ℕ) (a : Result ArrivalKind Refusal) → gap ≤ gap_after gap a
+gap_least gap (Ok kind.First) = omega arith
+gap_least gap (Ok (kind.Ahead n)) = omega arith
+gap_least gap (Ok kind.Late) = omega arith
+gap_least gap (Ok kind.Copy) = omega arith
+gap_least gap (Err e) = omega arith
 
-gap_most : (gap n : ℕ) (a : Arrival) → a ≡ arrival.Accepted (kind.Ahead n) → n ≤ gap_after gap a
+gap_most : (gap n : ℕ) (a : Result ArrivalKind Refusal) → a ≡ Ok (kind.Ahead n) → n ≤ gap_after gap a
 gap_most gap n a e = rw e (omega arith)
 
 -- it is as it was, or that of the answer
-gap_from : (gap : ℕ) (a : Arrival) → (gap_after gap a ≡ gap) ⊎ (a ≡ arrival.Accepted (kind.Ahead (gap_after gap a)))
-gap_from gap (arrival.Accepted kind.First) = ◌⊎◌.inl refl
-gap_from gap (arrival.Accepted (kind.Ahead n)) =
+gap_from : (gap : ℕ) (a : Result ArrivalKind Refusal) → (gap_after gap a ≡ gap) ⊎ (a ≡ Ok (kind.Ahead (gap_after gap a)))
+gap_from gap (Ok kind.First) = ◌⊎◌.inl refl
+gap_from gap (Ok (kind.Ahead n)) =
     elim (dec_le n gap) [
       | yes l ↦ let h : max gap n ≡ gap = omega arith in ◌⊎◌.inl h
-      | no l ↦ let h : max gap n ≡ n = omega arith in ◌⊎◌.inr (ap (λ (k : ℕ). arrival.Accepted (kind.Ahead k)) (sym h))
+      | no l ↦ let h : max gap n ≡ n = omega arith in ◌⊎◌.inr (ap (λ (k : ℕ). Ok (kind.Ahead k)) (sym h))
     ]
-gap_from gap (arrival.Accepted kind.Late) = ◌⊎◌.inl refl
-gap_from gap (arrival.Accepted kind.Copy) = ◌⊎◌.inl refl
-gap_from gap (arrival.Refused e) = ◌⊎◌.inl refl
+gap_from gap (Ok kind.Late) = ◌⊎◌.inl refl
+gap_from gap (Ok kind.Copy) = ◌⊎◌.inl refl
+gap_from gap (Err e) = ◌⊎◌.inl refl
 
 -- ---- all records, after those that were taken before
 abbrev Reaches : List Record → List Record → ℕ → Type 0
@@ -98,10 +98,10 @@ reaching (r ∷ rs) done x e =
 
     here : g ≡ (after_record x r).gap → (g ≡ x.gap) ⊎ Reaches done (r ∷ rs) g
     here same =
-        ⊎_elim (λ q. ◌⊎◌.inl (same ∙ q)) (λ q. ◌⊎◌.inr (first (q ∙ ap (λ (n : ℕ). arrival.Accepted (kind.Ahead n)) (sym same))))
+        ⊎_elim (λ q. ◌⊎◌.inl (same ∙ q)) (λ q. ◌⊎◌.inr (first (q ∙ ap (λ (n : ℕ). Ok (kind.Ahead n)) (sym same))))
         (gap_from x.gap (answer_to x r))
       where
-        first : answer_to x r ≡ arrival.Accepted (kind.Ahead g) → Reaches done (r ∷ rs) g
+        first : answer_to x r ≡ Ok (kind.Ahead g) → Reaches done (r ∷ rs) g
         first q =
             let p : PassesOver done r g = record { is = ap (λ (y : Recorded). answer_to y r) (sym e) ∙ q } in
             ([], (r, (rs, (refl, subst (λ (l : List Record). PassesOver l r g) (sym (append-nil done)) p))))
@@ -142,7 +142,7 @@ gap_in_decimal rs = in_decimal (made rs).gap (omega (arith, gap_bound rs))
 -- ---- what is printed for a file
 
 -- The report on its records, and then their gap;
-pub prints_gap : (s : List ℕ) (rs : List Record) → file_of s ≡ sound rs
+pub prints_gap : (s : List ℕ) (rs : List Record) → file_of s ≡ Ok rs
     → (text : List ℕ) × ((printed s ≡ report_lines (made rs).places (made rs).cells (made rs).rts ++ text) × PrintsGap rs text)
 unfolding printed gap_line
 prints_gap s rs e = (
@@ -155,11 +155,11 @@ no_report : report_lines fresh_places fresh_cells 0 ≡ []
 unfolding newest read_place packets_from lines_of
 no_report = refl
 
-pub no_records : (s : List ℕ) → file_of s ≡ sound [] → printed s ≡ gap_text ++ (zero_digit ∷ newline)
+pub no_records : (s : List ℕ) → file_of s ≡ Ok [] → printed s ≡ gap_text ++ (zero_digit ∷ newline)
 unfolding printed gap_line digit_at
 no_records s e = rw (e, no_report)
 
 -- and for one with a fault its refusal alone.
-pub prints_refusal : (s : List ℕ) (q : Refusal) → file_of s ≡ faulty q → printed s ≡ refused_line q
+pub prints_refusal : (s : List ℕ) (q : Refusal) → file_of s ≡ Err q → printed s ≡ refused_line q
 unfolding printed
 prints_refusal s q e = rw e

@@ -12,7 +12,8 @@ use Rattle.lists.proofs.All.{all_left}
 use Rattle.refusal.specs.declared.Refusal.{Refusal}
 use Rattle.octets.specs.Output.{output_after}
 use Rattle.octets.specs.Octets.{Octets, octet_values}
-use Rattle.metric.specs.declared.Time.{Time}
+use Rattle.std.specs.Prelude.{Option, Result, Some, None, Ok, Err}
+use Rattle.admission.specs.declared.ArrivalKind.{ArrivalKind}
 use Rattle.metric.specs.Metric.{congested}
 use Rattle.ring.specs.Ring.{cells_of_a_place}
 use Rattle.places.specs.Place.{place_at}
@@ -20,16 +21,14 @@ use Rattle.places.specs.Shape.{Shaped, Misshapen}
 use Rattle.places.specs.After.{StoreAfter}
 use Rattle.places.proofs.Shape.{shaped_is, misshapen_is}
 use Rattle.arrivals.specs.Arrivals.{arrived}
-use Rattle.admission.specs.declared.Arrival.{Arrival}
 use Rattle.streams.specs.Reading.{Store, Fresh}
 use Rattle.streams.proofs.Fresh.{zeroed_fresh}
 use Rattle.history.specs.Calls.{CallInRange, store_run}
 use Rattle.history.proofs.ByHistory.{same_reading, no_ssrc_twice}
 use Rattle.history.proofs.Refusals.{arrival_given}
 use Rattle.arrival_record.specs.declared.Record.{Record}
-use Rattle.arrival_file.specs.File.{Result, sound, faulty, end_of, file_of}
+use Rattle.arrival_file.specs.File.{end_of, file_of}
 use Rattle.arrival_file.specs.Pieces.{Feeding, result_of, ended, all_taken, taken_here}
-use Rattle.arrival_file.specs.declared.Check.{Check}
 use Rattle.recording.specs.Recorded.{Recorded, recorded, last_known, after_record}
 use Rattle.intake.specs.Intake.{left_of, fed_next, held_in}
 use Rattle.intake.specs.declared.Intake.{Intake}
@@ -45,11 +44,8 @@ use Rattle.line.specs.Printed.{fresh, report_of, printed_of, printed}
 use Rattle.line_laws.specs.Laws.{Answered, answer_to, LastTime, fed_pieces}
 use Rattle.line_laws.proofs.Records.{call_of, InRange, file_range, calls_range}
 use Rattle.line_laws.proofs.Streams.{sound_requests}
-use Rattle.metric.specs.declared.Time.TheVariants.{Unknown, Known}
-use Rattle.places.specs.declared.Holding.TheVariants.{Held}
 use Rattle.history.specs.Refusals as given
 use Rattle.arrival_file.specs.declared.Phase.TheVariants.{Faulty}
-use Rattle.arrival_file.specs.declared.Check.TheVariants as check
 use Rattle.intake.specs.Intake as intake
 
 -- ---- the store that the records make
@@ -68,7 +64,7 @@ fresh_store = zeroed_fresh line_places fresh_cells (omega arith) (omega arith) (
 -- it is sound, and no SSRC is in two places
 pub record Reached (x : Recorded) : Type 0 where
   pub shape : Shaped x.places x.cells
-  pub once : (ssrc p q h g : ℕ) → place_at x.places p ≡ Held ssrc h → place_at x.places q ≡ Held ssrc g → p ≡ q
+  pub once : (ssrc p q h g : ℕ) → place_at x.places p ≡ Some (record { ssrc = ssrc; highest = h }) → place_at x.places q ≡ Some (record { ssrc = ssrc; highest = g }) → p ≡ q
 
 pub reached : (rs : List Record) → All InRange rs → Reached (foldl after_record fresh rs)
 reached rs range =
@@ -77,7 +73,7 @@ reached rs range =
     record {
       shape = subst (λ (st : Store). Shaped st.places st.cells) is (same_reading (store_of fresh) fresh_store (map call_of rs) calls).shape;
       once =
-          subst (λ (st : Store). (ssrc p q h g : ℕ) → place_at st.places p ≡ Held ssrc h → place_at st.places q ≡ Held ssrc g → p ≡ q) is
+          subst (λ (st : Store). (ssrc p q h g : ℕ) → place_at st.places p ≡ Some (record { ssrc = ssrc; highest = h }) → place_at st.places q ≡ Some (record { ssrc = ssrc; highest = g }) → p ≡ q) is
           (no_ssrc_twice (store_of fresh) fresh_store (map call_of rs) calls);
     }
 
@@ -88,9 +84,9 @@ report_is x r = rw (shaped_is x.places x.cells r.shape, sound_requests x.places 
 
 -- ---- what is printed
 
-abbrev text_of : Result Recorded → List ℕ
-text_of (sound x) = report_text x.places x.cells x.rts ++ gap_line x.gap
-text_of (faulty e) = refused_line e
+abbrev text_of : Result Recorded Refusal → List ℕ
+text_of (Ok x) = report_text x.places x.cells x.rts ++ gap_line x.gap
+text_of (Err e) = refused_line e
 
 finished_is : (o : intake.IntakeAfter) → length (left_of o) ≡ o.intake.left
     → finished_text o.places o.cells o.intake ≡ text_of (ended (held_in o))
@@ -102,17 +98,17 @@ finished_is o e =
     text : List ℕ
     text = report_text o.places o.cells o.intake.rts ++ gap_line o.intake.gap
 
-    go : (v : Check) → if_whole v text ≡ text_of (result_of v (recorded o.places o.cells o.intake.rts o.intake.gap))
-    go check.Sound = refl
-    go (check.Refused e) = refl
+    go : (v : Result (Unit {0}) Refusal) → if_whole v text ≡ text_of (result_of v (recorded o.places o.cells o.intake.rts o.intake.gap))
+    go (Ok tt) = refl
+    go (Err e) = refl
 
 whole_is : (s : List ℕ) → Octets s → text_of (all_taken after_record fresh (file_of s)) ≡ printed s
 unfolding printed
 whole_is s o = go (file_of s) (λ rs e. file_range s rs o e)
   where
-    go : (f : Result (List Record)) → ((rs : List Record) → f ≡ sound rs → All InRange rs) → text_of (all_taken after_record fresh f) ≡ printed_of f
-    go (sound rs) range = report_is (foldl after_record fresh rs) (reached rs (range rs refl))
-    go (faulty e) range = refl
+    go : (f : Result (List Record) Refusal) → ((rs : List Record) → f ≡ Ok rs → All InRange rs) → text_of (all_taken after_record fresh f) ≡ printed_of f
+    go (Ok rs) range = report_is (foldl after_record fresh rs) (reached rs (range rs refl))
+    go (Err e) range = refl
 
 -- Where a caller has what the calls of `feed` with these pieces leave, whatever else is in its buffer: `finish` writes what
 -- is printed for the whole file.
@@ -175,7 +171,7 @@ fault_decides ps rest e o h = sym (prints_early ps rest e o h) ∙ prints ps (al
 misshapen_not : (places cells : List ℕ) → Shaped places cells → Misshapen places cells → ⊥
 misshapen_not places cells s m = true≢false (sym (shaped_is places cells s) ∙ misshapen_is places cells m)
 
-answered_by : (places cells : List ℕ) (ssrc number mark : ℕ) (o : StoreAfter Arrival) → Shaped places cells
+answered_by : (places cells : List ℕ) (ssrc number mark : ℕ) (o : StoreAfter (Result ArrivalKind Refusal)) → Shaped places cells
     → mark ≤ congested → given.ArrivalGiven places cells ssrc number mark o → Answered o.answer
 answered_by places cells ssrc number mark o s m (given.ArrivalGiven.bad_store w) = absurd (misshapen_not places cells s w)
 answered_by places cells ssrc number mark o s m (given.ArrivalGiven.bad_mark t h) = absurd (omega arith)
@@ -191,7 +187,7 @@ all_before [] r more h = (tt, h.0)
 all_before (q ∷ qs) r more h = let t = all_before qs r more h.1 in ((h.0, t.0), t.1)
 
 -- Each record of a file without fault, in the store that those before it have made, is accepted or skipped with 2 or 3.
-pub taken_or_skipped : (s : List ℕ) (qs : List Record) (r : Record) (more : List Record) → Octets s → file_of s ≡ sound (qs ++ r ∷ more)
+pub taken_or_skipped : (s : List ℕ) (qs : List Record) (r : Record) (more : List Record) → Octets s → file_of s ≡ Ok (qs ++ r ∷ more)
     → Answered (answer_to (foldl after_record fresh qs) r)
 taken_or_skipped s qs r more o e =
     let range = all_before qs r more (file_range s (qs ++ r ∷ more) o e) in
@@ -204,8 +200,8 @@ taken_or_skipped s qs r more o e =
 
 -- a time is known, and it is the last
 data Last (rs : List Record) : ℕ → Type 0 where
-  at : (qs : List Record) (r : Record) (more : List Record) (t : ℕ) → rs ≡ qs ++ r ∷ more → r.time ≡ Known t
-      → All (λ q. q.time ≡ Unknown) more → Last rs t
+  at : (qs : List Record) (r : Record) (more : List Record) (t : ℕ) → rs ≡ qs ++ r ∷ more → r.time ≡ Some t
+      → All (λ q. q.time ≡ None) more → Last rs t
 
 last_later : (r : Record) (rs : List Record) (t : ℕ) → Last rs t → Last (r ∷ rs) t
 last_later r rs t (Last.at qs q more u e k h) = Last.at (r ∷ qs) q more u (ap (λ (l : List Record). r ∷ l) e) k h
@@ -214,17 +210,17 @@ last_time : (rs : List Record) (t : ℕ) → Last rs t → LastTime rs t
 last_time rs t (Last.at qs q more u e k h) = LastTime.last qs q more u e k h
 
 rts_from : (rs : List Record) (x : Recorded)
-    → (All (λ r. r.time ≡ Unknown) rs × ((foldl after_record x rs).rts ≡ x.rts)) ⊎ Last rs (foldl after_record x rs).rts
+    → (All (λ r. r.time ≡ None) rs × ((foldl after_record x rs).rts ≡ x.rts)) ⊎ Last rs (foldl after_record x rs).rts
 unfolding after_record
 rts_from [] x = ◌⊎◌.inl (tt, refl)
 rts_from (r ∷ rs) x =
     ⊎_elim (λ h. here r.time refl h) (λ h. ◌⊎◌.inr (last_later r rs (foldl after_record (after_record x r) rs).rts h)) (rts_from rs (after_record x r))
   where
-    here : (t : Time) → r.time ≡ t → All (λ q. q.time ≡ Unknown) rs × ((foldl after_record (after_record x r) rs).rts ≡ last_known x.rts r.time)
-        → (All (λ q. q.time ≡ Unknown) (r ∷ rs) × ((foldl after_record (after_record x r) rs).rts ≡ x.rts))
+    here : (t : Option ℕ) → r.time ≡ t → All (λ q. q.time ≡ None) rs × ((foldl after_record (after_record x r) rs).rts ≡ last_known x.rts r.time)
+        → (All (λ q. q.time ≡ None) (r ∷ rs) × ((foldl after_record (after_record x r) rs).rts ≡ x.rts))
         ⊎ Last (r ∷ rs) (foldl after_record (after_record x r) rs).rts
-    here Unknown e h = ◌⊎◌.inl ((e, h.0), h.1 ∙ ap (last_known x.rts) e)
-    here (Known t) e h = ◌⊎◌.inr (subst (Last (r ∷ rs)) (sym (h.1 ∙ ap (last_known x.rts) e)) (Last.at [] r rs t refl e h.0))
+    here None e h = ◌⊎◌.inl ((e, h.0), h.1 ∙ ap (last_known x.rts) e)
+    here (Some t) e h = ◌⊎◌.inr (subst (Last (r ∷ rs)) (sym (h.1 ∙ ap (last_known x.rts) e)) (Last.at [] r rs t refl e h.0))
 
 -- Rule "RTS of the report": the time of the last record that has one, skipped records too; else 0.
 pub rts_is_last : (rs : List Record) → LastTime rs (foldl after_record fresh rs).rts

@@ -15,13 +15,11 @@ use Rattle.history.specs.Calls.{Call, arrive, CallInRange}
 use Rattle.record_fault.specs.Fault.{is_faulty}
 use Rattle.arrival_record.specs.Record.{record_of_is, record_read_of, record_octets}
 use Rattle.arrival_record.specs.declared.Record.{Record}
-use Rattle.arrival_record.specs.declared.RecordRead.{RecordRead}
+use Rattle.std.specs.Prelude.{Result, Ok, Err}
+use Rattle.refusal.specs.declared.Refusal.{Refusal}
 use Rattle.arrival_record.proofs.Cases.{cut_short, bad_record_lem, sound_record}
-use Rattle.arrival_file.specs.File.{header_of, Result, sound, faulty, record_first, records_of, behind, file_of, file_header_octets}
-use Rattle.arrival_file.specs.declared.Check.{Check}
+use Rattle.arrival_file.specs.File.{header_of, record_first, records_of, behind, file_of, file_header_octets}
 use Rattle.refusal.specs.declared.Refusal.TheVariants.{RecordCutShort}
-use Rattle.arrival_record.specs.declared.RecordRead.TheVariants as entry
-use Rattle.arrival_file.specs.declared.Check.TheVariants.{Sound, Refused}
 
 -- ---- records
 
@@ -46,7 +44,7 @@ record_of : (t : List ℕ) → Octets t → is_faulty (get_or t 6 0) (get_or t 7
 record_of t o e =
     (low_mark (get_or t 6 0) (get_or t 7 0) (be32 t 8) e, (less_32 t o 0, (less_16 t o 4, time_below (not (eqb (get_or t 7 0) 0)) (be32 t 8) (less_32 t o 8))))
 
-entry_range : (t : List ℕ) (r : Record) → Octets t → record_read_of t ≡ entry.Record r → InRange r
+entry_range : (t : List ℕ) (r : Record) → Octets t → record_read_of t ≡ Ok r → InRange r
 entry_range t r o e =
     split_le record_octets (length t)
     (λ h. go h (is_faulty (get_or t 6 0) (get_or t 7 0) (be32 t 8)) refl)
@@ -56,29 +54,29 @@ entry_range t r o e =
     go h true f = let c = bad_record_lem t h f in never (cc)
     go h false f = let c = sound_record t h f in let z : record_of_is t ≡ r = cc in subst InRange z (record_of t o f)
 
-records_range : (n : ℕ) (t : List ℕ) (rs : List Record) → Octets t → records_of n t ≡ sound rs → All InRange rs
+records_range : (n : ℕ) (t : List ℕ) (rs : List Record) → Octets t → records_of n t ≡ Ok rs → All InRange rs
 unfolding records_of
 records_range zero t rs o e = go (eqb (length t) 0) e
   where
-    go : (b : Bool) → cond b (sound []) (faulty RecordCutShort) ≡ sound rs → All InRange rs
+    go : (b : Bool) → cond b (Ok []) (Err RecordCutShort) ≡ Ok rs → All InRange rs
     go true f = let z : ◌≡◌ {A = List Record} [] rs = cc in subst (All InRange) z tt
     go false f = never (cc)
 records_range (suc n) t rs o e =
     go (record_read_of t) (records_of n (drop record_octets t)) e (λ r f. entry_range t r o f) (λ qs f. records_range n (drop record_octets t) qs (octets_from record_octets t o) f)
   where
-    go : (y : RecordRead) (f : Result (List Record)) → record_first y f ≡ sound rs
-        → ((r : Record) → y ≡ entry.Record r → InRange r) → ((qs : List Record) → f ≡ sound qs → All InRange qs) → All InRange rs
-    go (entry.Record r) (sound qs) g p q = let z : ◌≡◌ {A = List Record} (r ∷ qs) rs = cc in subst (All InRange) z (p r refl, q qs refl)
-    go (entry.Record r) (faulty x) g p q = never (cc)
-    go (entry.Refused x) f g p q = never (cc)
+    go : (y : Result Record Refusal) (f : Result (List Record) Refusal) → record_first y f ≡ Ok rs
+        → ((r : Record) → y ≡ Ok r → InRange r) → ((qs : List Record) → f ≡ Ok qs → All InRange qs) → All InRange rs
+    go (Ok r) (Ok qs) g p q = let z : ◌≡◌ {A = List Record} (r ∷ qs) rs = cc in subst (All InRange) z (p r refl, q qs refl)
+    go (Ok r) (Err x) g p q = never (cc)
+    go (Err x) f g p q = never (cc)
 
-pub file_range : (s : List ℕ) (rs : List Record) → Octets s → file_of s ≡ sound rs → All InRange rs
+pub file_range : (s : List ℕ) (rs : List Record) → Octets s → file_of s ≡ Ok rs → All InRange rs
 unfolding file_of
 file_range s rs o e = go (header_of s) e
   where
-    go : (v : Check) → behind v (drop file_header_octets s) ≡ sound rs → All InRange rs
-    go Sound f = records_range (length (drop file_header_octets s) / record_octets) (drop file_header_octets s) rs (octets_from file_header_octets s o) f
-    go (Refused x) f = never (cc)
+    go : (v : Result (Unit {0}) Refusal) → behind v (drop file_header_octets s) ≡ Ok rs → All InRange rs
+    go (Ok tt) f = records_range (length (drop file_header_octets s) / record_octets) (drop file_header_octets s) rs (octets_from file_header_octets s o) f
+    go (Err x) f = never (cc)
 
 pub calls_range : (rs : List Record) → All InRange rs → All CallInRange (map call_of rs)
 calls_range [] h = tt

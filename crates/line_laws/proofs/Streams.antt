@@ -11,17 +11,14 @@ use Rattle.lists.proofs.First.{first_at}
 use Rattle.window.specs.Number.{distance_of, sequence_numbers}
 use Rattle.ring.specs.Ring.{cells_of_a_place}
 use Rattle.places.specs.Place.{read_place, place_at, highest_at, is_stream, holds, find_of}
-use Rattle.places.specs.declared.Holding.{Holding}
+use Rattle.std.specs.Prelude.{Option, Some, None, Ok}
+use Rattle.places.specs.declared.Stream.{Stream}
 use Rattle.places.proofs.Held.{held_highest}
 use Rattle.cutting.specs.declared.Request.{Request}
 use Rattle.line_report.specs.Report.{newest_numbers}
 use Rattle.line_newest.specs.Newest.{newest_four, asked_of, newest}
-use Rattle.lists.specs.declared.Found.TheVariants.{At}
-use Rattle.places.specs.declared.Holding.TheVariants.{Free, Held}
 use Rattle.request_check.specs.Check as check
 use Rattle.requests.specs.Requests.{checked}
-use Rattle.request_check.specs.declared.Checked.TheVariants as check-answer
-use Rattle.requests.specs.declared.Verdict.TheVariants.{Sound}
 
 -- ---- lists of requests
 
@@ -30,9 +27,9 @@ unfolding newest
 newest_append [] vs = refl
 newest_append (w ∷ ws) vs = go (read_place w) (newest_append ws vs)
   where
-    go : (h : Holding) → newest (ws ++ vs) ≡ newest ws ++ newest vs → asked_of h (newest (ws ++ vs)) ≡ asked_of h (newest ws) ++ newest vs
-    go Free e = e
-    go (Held ssrc highest) e = ap (λ (l : List Request). newest_four ssrc highest ∷ l) e
+    go : (h : Option Stream) → newest (ws ++ vs) ≡ newest ws ++ newest vs → asked_of h (newest (ws ++ vs)) ≡ asked_of h (newest ws) ++ newest vs
+    go None e = e
+    go (Some s) e = ap (λ (l : List Request). newest_four s.ssrc s.highest ∷ l) e
 
 -- a stream that no place of a list holds is named by no request of it
 not_named : (ws : List ℕ) (ssrc : ℕ) → ((j : ℕ) → j < length ws → is_stream ssrc (read_place (get_or ws j 0)) ≡ false)
@@ -41,9 +38,9 @@ unfolding newest check.named
 not_named [] ssrc none = refl
 not_named (w ∷ ws) ssrc none = go (read_place w) (none 0 (omega arith)) (not_named ws ssrc (λ j l. none (suc j) (omega arith)))
   where
-    go : (h : Holding) → is_stream ssrc h ≡ false → check.named (newest ws) ssrc ≡ false → check.named (asked_of h (newest ws)) ssrc ≡ false
-    go Free e f = f
-    go (Held x highest) e f = rw (e, f)
+    go : (h : Option Stream) → is_stream ssrc h ≡ false → check.named (newest ws) ssrc ≡ false → check.named (asked_of h (newest ws)) ssrc ≡ false
+    go None e f = f
+    go (Some s) e f = rw (e, f)
 
 -- ---- the window
 
@@ -53,22 +50,22 @@ newest_in_window highest h =
     let d : distance_of highest (distance_of highest (newest_numbers - 1)) ≡ 3 = omega arith in
     simp (d, lt-ltb 3 cells_of_a_place (omega arith))
 
-module _ (places : List ℕ) (once : (ssrc p q h g : ℕ) → place_at places p ≡ Held ssrc h → place_at places q ≡ Held ssrc g → p ≡ q) where
+module _ (places : List ℕ) (once : (ssrc p q h g : ℕ) → place_at places p ≡ Some (record { ssrc = ssrc; highest = h }) → place_at places q ≡ Some (record { ssrc = ssrc; highest = g }) → p ≡ q) where
   -- another place holds another stream
-  elsewhere : (i j ssrc highest : ℕ) → place_at places i ≡ Held ssrc highest → (j ≡ i → ⊥) → is_stream ssrc (place_at places j) ≡ false
+  elsewhere : (i j ssrc highest : ℕ) → place_at places i ≡ Some (record { ssrc = ssrc; highest = highest }) → (j ≡ i → ⊥) → is_stream ssrc (place_at places j) ≡ false
   elsewhere i j ssrc highest e n = go (place_at places j) refl
     where
-      go : (h : Holding) → place_at places j ≡ h → is_stream ssrc h ≡ false
-      go Free f = refl
-      go (Held x g) f = ne_eqb x ssrc (λ z. n (once ssrc j i g highest (f ∙ ap (λ (y : ℕ). Held y g) z) e))
+      go : (h : Option Stream) → place_at places j ≡ h → is_stream ssrc h ≡ false
+      go None f = refl
+      go (Some s) f = ne_eqb s.ssrc ssrc (λ z. n (once ssrc j i s.highest highest (f ∙ ap (λ (y : ℕ). Some (record { ssrc = y; highest = s.highest })) z) e))
 
-  module _ (i ssrc highest : ℕ) (there : i < length places) (here : place_at places i ≡ Held ssrc highest) where
-    found_here : find_of places ssrc ≡ At i
+  module _ (i ssrc highest : ℕ) (there : i < length places) (here : place_at places i ≡ Some (record { ssrc = ssrc; highest = highest })) where
+    found_here : find_of places ssrc ≡ Some i
     found_here =
         first_at (holds places ssrc) (length places) 0 i (omega arith) (omega arith) (ap (is_stream ssrc) here ∙ eq-eqb ssrc ssrc refl)
         (λ k l g. elsewhere i k ssrc highest here (λ z. omega arith))
 
-    sound_here : check.check_of places (newest (take i places)) (newest_four ssrc highest) ≡ check-answer.At i
+    sound_here : check.check_of places (newest (take i places)) (newest_four ssrc highest) ≡ Ok i
     unfolding check.check_of
     sound_here =
         let top : highest_at places i ≡ highest = held_highest (get_or places i 0) ssrc highest here in
@@ -83,7 +80,7 @@ module _ (places : List ℕ) (once : (ssrc p q h g : ℕ) → place_at places p 
   unfolding newest
   one_more i l = ap newest (take-suc places i 0 l) ∙ newest_append (take i places) (get_or places i 0 ∷ [])
 
-  sound_from : (n i : ℕ) → i + n ≡ length places → checked places (newest (take i places)) (newest (drop i places)) ≡ Sound
+  sound_from : (n i : ℕ) → i + n ≡ length places → checked places (newest (take i places)) (newest (drop i places)) ≡ Ok tt
   unfolding newest checked
   sound_from zero i e =
       let d : drop i places ≡ [] = ap (λ (k : ℕ). drop k places) (plain i e) ∙ drop-length places in
@@ -95,18 +92,18 @@ module _ (places : List ℕ) (once : (ssrc p q h g : ℕ) → place_at places p 
       rw (drop-cons places i 0 (omega arith))
       (go (place_at places i) refl (sound_from n (suc i) (omega arith)))
     where
-      go : (h : Holding) → place_at places i ≡ h → checked places (newest (take (suc i) places)) (newest (drop (suc i) places)) ≡ Sound
-          → checked places (newest (take i places)) (asked_of h (newest (drop (suc i) places))) ≡ Sound
-      go Free f r =
+      go : (h : Option Stream) → place_at places i ≡ h → checked places (newest (take (suc i) places)) (newest (drop (suc i) places)) ≡ Ok tt
+          → checked places (newest (take i places)) (asked_of h (newest (drop (suc i) places))) ≡ Ok tt
+      go None f r =
           let t : newest (take (suc i) places) ≡ newest (take i places) = one_more i (omega arith)
-          ∙ ap (λ (h : Holding). newest (take i places) ++ asked_of h []) f ∙ append-nil (newest (take i places)) in
+          ∙ ap (λ (h : Option Stream). newest (take i places) ++ asked_of h []) f ∙ append-nil (newest (take i places)) in
           ap (λ (l : List Request). checked places l (newest (drop (suc i) places))) (sym t) ∙ r
-      go (Held ssrc highest) f r =
-          let t : newest (take (suc i) places) ≡ newest (take i places) ++ newest_four ssrc highest ∷ [] = one_more i (omega arith)
-          ∙ ap (λ (h : Holding). newest (take i places) ++ asked_of h []) f in
-          rw (sound_here i ssrc highest (omega arith) f) (ap (λ (l : List Request). checked places l (newest (drop (suc i) places))) (sym t) ∙ r)
+      go (Some s) f r =
+          let t : newest (take (suc i) places) ≡ newest (take i places) ++ newest_four s.ssrc s.highest ∷ [] = one_more i (omega arith)
+          ∙ ap (λ (h : Option Stream). newest (take i places) ++ asked_of h []) f in
+          rw (sound_here i s.ssrc s.highest (omega arith) f) (ap (λ (l : List Request). checked places l (newest (drop (suc i) places))) (sym t) ∙ r)
 
   -- the writer finds no fault in them
-  pub sound_requests : checked places [] (newest places) ≡ Sound
+  pub sound_requests : checked places [] (newest places) ≡ Ok tt
   unfolding newest
   sound_requests = sound_from (length places) 0 (omega arith)

@@ -11,26 +11,26 @@ use Rattle.refusal.specs.declared.Refusal.TheVariants.{BadStore}
 use Rattle.window.specs.Number.{distance_of}
 use Rattle.places.specs.Place.{read_place}
 use Rattle.places.specs.Shape.{shaped, most_places}
-use Rattle.places.specs.declared.Holding.{Holding}
+use Rattle.std.specs.Prelude.{Option, Some, None}
+use Rattle.places.specs.declared.Stream.{Stream}
 use Rattle.cutting.specs.declared.Request.{Request}
 use Rattle.line_refusal.specs.Refused.{refused_line}
 use Rattle.line_report.specs.Report.{FourEach, requested_text}
 use Rattle.line_newest.specs.Newest.{newest_four, asked_of, newest, report_text}
-use Rattle.places.specs.declared.Holding.TheVariants.{Free, Held}
 
 -- the first n requests, and those of the places starting at i
 abbrev pub gathered : List Request → ℕ → List ℕ → ℕ → List Request
 gathered requests n places i = take n requests ++ newest (drop i places)
 
-module _ (places : List ℕ) (requests : List Request) (n i : ℕ) (there : i < length places) (h : Holding) (read : h ≡ read_place (get_or places i 0)) where
+module _ (places : List ℕ) (requests : List Request) (n i : ℕ) (there : i < length places) (h : Option Stream) (read : h ≡ read_place (get_or places i 0)) where
   newest_on : newest (drop i places) ≡ asked_of h (newest (drop (i + 1) places))
   unfolding newest
   newest_on = rw (add-one i, drop-cons places i 0 there, read)
 
-  pub gather_free : h ≡ Free → gathered requests n places (i + 1) ≡ gathered requests n places i
+  pub gather_free : h ≡ None → gathered requests n places (i + 1) ≡ gathered requests n places i
   gather_free e = rw (newest_on, e)
 
-  pub gather_held : (ssrc highest begin : ℕ) → h ≡ Held ssrc highest → begin ≡ distance_of highest 3 → n < length requests
+  pub gather_held : (ssrc highest begin : ℕ) → h ≡ Some (record { ssrc = ssrc; highest = highest }) → begin ≡ distance_of highest 3 → n < length requests
       → gathered (set requests n (record { ssrc = ssrc; begin = begin; count = 4 })) (n + 1) places (i + 1) ≡ gathered requests n places i
   gather_held ssrc highest begin e b l =
       rw (newest_on, e, b, add-one n, take-suc-set requests n (newest_four ssrc highest) l)
@@ -45,30 +45,34 @@ gather_all places requests n i rs l e =
     sym (append-nil (take n requests)) ∙ ap (λ (t : List ℕ). take n requests ++ newest t) (sym d) ∙ e
 
 -- what a turn over the places keeps
-abbrev pub Gathering : List ℕ → List Request → ℕ → ℕ → Type 0
-Gathering places requests n i =
-    (i ≤ length places) × (length places ≤ most_places) × (n ≤ i) × (length requests ≡ most_places) × (gathered requests n places i ≡ newest places)
+pub record Gathering (places : List ℕ) (requests : List Request) (n i : ℕ) : Type 0 where
+  pub few : length places ≤ most_places
+  pub below : n ≤ i
+  pub sized : length requests ≡ most_places
+  pub all : gathered requests n places i ≡ newest places
 
 module _ (places : List ℕ) (requests : List Request) (n i : ℕ) (g : Gathering places requests n i)
-    (there : i < length places) (h : Holding) (read : h ≡ read_place (get_or places i 0)) (requests' : List Request) (n' : ℕ) where
-  pub turn_free : h ≡ Free → requests' ≡ requests → n' ≡ n → Gathering places requests' n' (i + 1)
-  turn_free e p q = rw (p, q) (omega arith, omega arith, omega arith, omega arith, gather_free places requests n i there h read e ∙ g.4)
+    (there : i < length places) (h : Option Stream) (read : h ≡ read_place (get_or places i 0)) (requests' : List Request) (n' : ℕ) where
+  pub turn_free : h ≡ None → requests' ≡ requests → n' ≡ n → Gathering places requests' n' (i + 1)
+  turn_free e p q =
+      rw (p, q)
+      (record { few = g.few; below = omega arith; sized = g.sized; all = gather_free places requests n i there h read e ∙ g.all })
 
-  pub turn_held : (ssrc highest begin : ℕ) → h ≡ Held ssrc highest → begin ≡ distance_of highest 3
+  pub turn_held : (ssrc highest begin : ℕ) → h ≡ Some (record { ssrc = ssrc; highest = highest }) → begin ≡ distance_of highest 3
       → requests' ≡ set requests n (record { ssrc = ssrc; begin = begin; count = 4 }) → n' ≡ n + 1 → Gathering places requests' n' (i + 1)
   turn_held ssrc highest begin e b p q =
-      rw (p, q) (
-        omega arith,
-        omega arith,
-        omega arith,
-        simp length-set (omega arith),
-        gather_held places requests n i there h read ssrc highest begin e b (omega arith) ∙ g.4,
-      )
+      rw (p, q)
+      (record {
+        few = g.few;
+        below = omega arith;
+        sized = simp length-set g.sized;
+        all = gather_held places requests n i there h read ssrc highest begin e b (omega arith) ∙ g.all;
+      })
 
 -- each request is of four numbers
-asked_four : (h : Holding) (rs : List Request) → FourEach rs → FourEach (asked_of h rs)
-asked_four Free rs f = f
-asked_four (Held ssrc highest) rs f = (refl, f)
+asked_four : (h : Option Stream) (rs : List Request) → FourEach rs → FourEach (asked_of h rs)
+asked_four None rs f = f
+asked_four (Some s) rs f = (refl, f)
 
 pub newest_four_lem : (places : List ℕ) → FourEach (newest places)
 unfolding newest

@@ -8,7 +8,7 @@ ghost use Rattle.line_report.specs.Report.{line_room};
 ghost use Rattle.line_newest.specs.Newest.{report_text};
 
 use cutting::Request;
-use places::{Holding, MOST_PLACES};
+use places::{MOST_PLACES, Stream};
 use refusal::Refusal;
 
 // How many numbers of each stream are asked for, and how far before the highest they begin.
@@ -24,8 +24,7 @@ pub fn report(places: &[u64], cells: &[u64], rts: u32, out: &mut [u8]) -> usize
         ≡ put_text out.old (report_text places.now cells.now rts) }
     ensures bound { result ≤ line_room }
 {
-    let sound = places::is_shaped(places, cells);
-    if !sound {
+    if !places::is_shaped(places, cells) {
         return line_refusal::put_refusal(out, Refusal::BadStore);
     }
     let mut requests = [Request {
@@ -34,21 +33,15 @@ pub fn report(places: &[u64], cells: &[u64], rts: u32, out: &mut [u8]) -> usize
         count: 0,
     }; MOST_PLACES];
     let mut n = 0;
-    let mut i = 0;
-    while i < places.len() {
-        let here = places::read_place(places[i]);
-        match here {
-            Holding::Held { ssrc, highest } => {
-                requests[n] = Request {
-                    ssrc: ssrc,
-                    begin: window::distance(highest, BACK),
-                    count: NEWEST_NUMBERS,
-                };
-                n += 1;
-            }
-            Holding::Free => {}
+    for place in places {
+        if let Some(Stream { ssrc, highest }) = places::read_place(*place) {
+            requests[n] = Request {
+                ssrc,
+                begin: window::distance(highest, BACK),
+                count: NEWEST_NUMBERS,
+            };
+            n += 1;
         }
-        i += 1;
     }
-    line_report::put_report(places, cells, rts, requests, n, out)
+    line_report::put_report(places, cells, rts, &requests[..n], out)
 }

@@ -17,9 +17,9 @@ use Rattle.cutting.specs.Plan.{onto, filled_from, plan, total_octets}
 use Rattle.cutting.specs.declared.Request.{Request}
 use Rattle.cutting.proofs.Plan.{next_whole, filled_none, filled_by_lem, plan_none, plan_step}
 use Rattle.requests.specs.Requests.{checked}
-use Rattle.requests.specs.declared.Verdict.{Verdict}
+use Rattle.std.specs.Prelude.{Result, Ok, Err}
+use Rattle.plan_size.specs.declared.Total.{Total}
 use Rattle.blocks.specs.Packets.{store_metric, report_packet, encode_packets, packets_for}
-use Rattle.sound_writer.specs.declared.Answer.{Answer}
 use Rattle.sound_writer.specs.Put.{put_packets, writing_refused}
 use Rattle.writer.specs.Written.{if_all_sound, written}
 use Rattle.packets.proofs.Packets.{length_report}
@@ -31,8 +31,6 @@ use Rattle.line_report.specs.Report.{FourEach, lines_of, if_reported, requested_
 use Rattle.refusal.specs.declared.Refusal.TheVariants.{BadStore, BadLimit, TooManyRequests}
 use Rattle.packet.specs.Packet as packet
 use Rattle.cutting.specs.declared.NextBlock.TheVariants.{Whole}
-use Rattle.requests.specs.declared.Verdict.TheVariants.{Sound, Fault}
-use Rattle.sound_writer.specs.declared.Answer.TheVariants.{Written, Refused}
 
 -- ---- the plan: a block of four numbers has 16 octets
 
@@ -76,66 +74,66 @@ module _ (of : CutPacket → packet.Packet) (size : (p : CutPacket) → length (
   one_line (p ∷ q ∷ c) out l h = absurd (omega arith)
 
 -- what the writer's answer and the octets of its output are to the text
-abbrev Says : Answer → List ℕ → List ℕ → Type 0
-Says (Written packets octets) exit text =
-    (octets ≤ packet_room) × ((packets ≡ 0 → text ≡ []) × ((packets ≡ 0 → ⊥) → text ≡ hex_line (take octets exit)))
-Says (Refused e) exit text = text ≡ refused_line e
+abbrev Says : Result Total Refusal → List ℕ → List ℕ → Type 0
+Says (Ok t) exit text =
+    (t.octets ≤ packet_room) × ((t.packets ≡ 0 → text ≡ []) × ((t.packets ≡ 0 → ⊥) → text ≡ hex_line (take t.octets exit)))
+Says (Err e) exit text = text ≡ refused_line e
 
-module _ (places cells : List ℕ) (rts n : ℕ) (out : List ℕ) (rs : List Request) (few : n ≤ most_places)
-    (room : length out ≡ packet_room) (four : FourEach rs) (all : length rs ≤ most_places) where
+module _ (places cells : List ℕ) (rts : ℕ) (out : List ℕ) (rs : List Request) (few : length rs ≤ most_places)
+    (room : length out ≡ packet_room) (four : FourEach rs) where
   says_put : Says (put_packets (plan line_limit rs) (packets_for places cells line_sender rts line_limit rs) out).answer
       (put_packets (plan line_limit rs) (packets_for places cells line_sender rts line_limit rs) out).output (lines_of (packets_for places cells line_sender rts line_limit rs))
   unfolding put_packets
   says_put =
-      let one = one_packet rs four all in
+      let one = one_packet rs four few in
       rw (le-ltb (length out) (total_octets (plan line_limit rs)) (omega (arith, one.1))) (
         one.1,
         one_line (report_packet (λ i. store_metric places cells rts (stream_of rs i)) rs line_sender rts)
             (length_report (λ i. store_metric places cells rts (stream_of rs i)) rs line_sender rts) (plan line_limit rs) out one.0 (omega (arith, one.1)),
       )
 
-  says_by : (b : Bool) (v : Verdict)
-      → let w : OutputAfter Answer =
+  says_by : (b : Bool) (v : Result (Unit {0}) Refusal)
+      → let w : OutputAfter (Result Total Refusal) =
       cond b
       (cond (ltb line_limit 24) (writing_refused BadLimit out)
       (cond (ltb 9000 line_limit) (writing_refused BadLimit out)
-      (cond (ltb most_places n) (writing_refused TooManyRequests out)
+      (cond (ltb most_places (length rs)) (writing_refused TooManyRequests out)
       (if_all_sound v (put_packets (plan line_limit rs) (packets_for places cells line_sender rts line_limit rs) out) out))))
       (writing_refused BadStore out) in
       Says w.answer w.output (cond b (if_reported v (lines_of (packets_for places cells line_sender rts line_limit rs))) (refused_line BadStore))
-  says_by true Sound = rw (le-ltb most_places n few) says_put
-  says_by true (Fault e) = rw (le-ltb most_places n few) refl
+  says_by true (Ok tt) = rw (le-ltb most_places (length rs) few) says_put
+  says_by true (Err e) = rw (le-ltb most_places (length rs) few) refl
   says_by false v = refl
 
   -- the writer's answer says what is printed
-  says_written : (a : Answer) (exit : List ℕ) → output_after a exit ≡ written places cells line_sender rts line_limit n rs out → Says a exit (requested_text places cells rts rs)
+  says_written : (a : Result Total Refusal) (exit : List ℕ) → output_after a exit ≡ written places cells line_sender rts line_limit (length rs) rs out → Says a exit (requested_text places cells rts rs)
   unfolding written requested_text
   says_written a exit e =
-      subst (λ (w : OutputAfter Answer). Says w.answer w.output (requested_text places cells rts rs)) (sym e)
+      subst (λ (w : OutputAfter (Result Total Refusal)). Says w.answer w.output (requested_text places cells rts rs)) (sym e)
       (says_by (shaped places cells) (checked places [] rs))
 
 -- the same of an answer that the code has in hand
-pub record Said (a : Answer) (exit text : List ℕ) : Type 0 where
-  pub room : (packets octets : ℕ) → a ≡ Written packets octets → octets ≤ packet_room
-  pub none : (packets octets : ℕ) → a ≡ Written packets octets → packets ≡ 0 → text ≡ []
-  pub line : (packets octets : ℕ) → a ≡ Written packets octets → (packets ≡ 0 → ⊥) → text ≡ hex_line (take octets exit)
-  pub refused : (q : Refusal) → a ≡ Refused q → text ≡ refused_line q
+pub record Said (a : Result Total Refusal) (exit text : List ℕ) : Type 0 where
+  pub room : (packets octets : ℕ) → a ≡ Ok (record { packets = packets; octets = octets }) → octets ≤ packet_room
+  pub none : (packets octets : ℕ) → a ≡ Ok (record { packets = packets; octets = octets }) → packets ≡ 0 → text ≡ []
+  pub line : (packets octets : ℕ) → a ≡ Ok (record { packets = packets; octets = octets }) → (packets ≡ 0 → ⊥) → text ≡ hex_line (take octets exit)
+  pub refused : (q : Refusal) → a ≡ Err q → text ≡ refused_line q
 
-pub said : (places cells : List ℕ) (rts n : ℕ) (out : List ℕ) (requests : List Request) → n ≤ most_places
-    → packet_room ≡ length out → FourEach (take n requests) → (a : Answer) (exit : List ℕ)
-    → output_after a exit ≡ written places cells line_sender rts line_limit n (take n requests) out → Said a exit (requested_text places cells rts (take n requests))
-said places cells rts n out requests few room four a exit e =
+pub said : (places cells : List ℕ) (rts : ℕ) (out : List ℕ) (rs : List Request) → length rs ≤ most_places
+    → packet_room ≡ length out → FourEach rs → (a : Result Total Refusal) (exit : List ℕ)
+    → output_after a exit ≡ written places cells line_sender rts line_limit (length rs) rs out → Said a exit (requested_text places cells rts rs)
+said places cells rts out rs few room four a exit e =
     record {
-      room = λ p o is. (says (Written p o) is).0;
-      none = λ p o is. (says (Written p o) is).1.0;
-      line = λ p o is. (says (Written p o) is).1.1;
-      refused = λ q is. says (Refused q) is;
+      room = λ p o is. (says (Ok (record { packets = p; octets = o })) is).0;
+      none = λ p o is. (says (Ok (record { packets = p; octets = o })) is).1.0;
+      line = λ p o is. (says (Ok (record { packets = p; octets = o })) is).1.1;
+      refused = λ q is. says (Err q) is;
     }
   where
-    says : (b : Answer) → a ≡ b → Says b exit (requested_text places cells rts (take n requests))
+    says : (b : Result Total Refusal) → a ≡ b → Says b exit (requested_text places cells rts rs)
     says b is =
-        subst (λ (x : Answer). Says x exit (requested_text places cells rts (take n requests))) is
-        (says_written places cells rts n out (take n requests) few (sym room) four (omega (arith, length-take n requests)) a exit e)
+        subst (λ (x : Result Total Refusal). Says x exit (requested_text places cells rts rs)) is
+        (says_written places cells rts out rs few (sym room) four a exit e)
 
 -- ---- what is written
 

@@ -1,17 +1,16 @@
 -- Rules: "ccfbline", rule "Report". The text that is printed for requests of four numbers each, for
 -- any store: a packet as a line of hex, or the writer's refusal.
-use Rattle.std.specs.Prelude.{ℕ, ◌+◌, ◌*◌, ◌≡◌, cond, List, [], ◌∷◌, ◌++◌}
+use Rattle.std.specs.Prelude.{ℕ, ◌+◌, ◌*◌, ◌≡◌, cond, List, [], ◌∷◌, ◌++◌, Result, Ok, Err}
 use Rattle.lists.specs.All.{All}
 use Rattle.refusal.specs.declared.Refusal.TheVariants.{BadStore}
 use Rattle.places.specs.Shape.{shaped}
 use Rattle.cutting.specs.declared.Request.{Request}
 use Rattle.requests.specs.Requests.{checked}
-use Rattle.requests.specs.declared.Verdict.{Verdict}
+use Rattle.refusal.specs.declared.Refusal.{Refusal}
 use Rattle.blocks.specs.Packets.{packets_for}
 use Rattle.line_hex.specs.Hex.{hex_line}
 use Rattle.line_refusal.specs.Refused.{refused_line}
 use Rattle.packet.specs.Packet as packet
-use Rattle.requests.specs.declared.Verdict.TheVariants as verdict
 
 -- so many numbers of each stream
 abbrev pub newest_numbers : ℕ
@@ -44,9 +43,9 @@ abbrev pub line_room : ℕ
 line_room = 2 * packet_room + 1
 
 -- any store: the writer may refuse it
-abbrev pub if_reported : Verdict → List ℕ → List ℕ
-if_reported verdict.Sound text = text
-if_reported (verdict.Fault e) text = refused_line e
+abbrev pub if_reported : Result (Unit {0}) Refusal → List ℕ → List ℕ
+if_reported (Ok tt) text = text
+if_reported (Err e) text = refused_line e
 
 unfoldable pub requested_text : List ℕ → List ℕ → ℕ → List Request → List ℕ
 requested_text places cells rts rs =

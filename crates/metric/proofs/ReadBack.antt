@@ -5,13 +5,12 @@ use native.Mathlib.Omega.{arith}
 use borrow.Author.Tests.{lt-ltb, le-ltb, lt-leb, le-leb, ne_eqb}
 use lib.Dec.{lit<}
 use Rattle.lists.proofs.Cases.{split_le}
-use Rattle.metric.specs.Metric.{age_of, ato_of_age, encode_of, received_of, decode_of, seen_at_age, seen_of, largest_offset, mark_unit, received_bit, longest_age}
-use Rattle.metric.specs.declared.Cell.{Cell}
+use Rattle.metric.specs.Metric.{age_of, ato_of_age, ato_of, assembled_of, encode_of, received_of, decode_of, seen_at_age, seen_at_time, seen_of, largest_offset, mark_unit, received_bit, longest_age}
+use Rattle.std.specs.Prelude.{Option, Some, None}
+use Rattle.metric.specs.declared.Arrived.{Arrived}
 use Rattle.metric.proofs.Table.{after_row, over_row, else_row}
 use Rattle.metric.proofs.Decoded.{reads_not_received, reads_received}
 use Rattle.metric.specs.declared.Metric.TheVariants.{Received}
-use Rattle.metric.specs.declared.Cell.TheVariants.{Empty, Filled}
-use Rattle.metric.specs.declared.Time.TheVariants.{Unknown, Known}
 
 -- what was put into the fields is in them
 fields : (k a : ℕ) → k < 4 → a < mark_unit → decode_of (received_bit + mark_unit * k + a) ≡ received_of k a
@@ -34,7 +33,10 @@ at_age k age h =
     in_range_lem : (a : ℕ) → a ≤ largest_offset → decode_of (received_bit + mark_unit * k + a) ≡ Received k a
     in_range_lem a i = fields k a h (omega arith) ∙ rw (ne_eqb a 0x1FFF (λ e. omega arith), ne_eqb a 0x1FFE (λ e. omega arith))
 
-pub decode_encode : (cell : Cell) (rts : ℕ) → decode_of (encode_of cell rts) ≡ seen_of cell rts
-decode_encode Empty rts = reads_not_received 0 (omega arith)
-decode_encode (Filled mark Unknown) rts = fields (mark % 4) 0x1FFF (omega arith) (omega arith)
-decode_encode (Filled mark (Known t)) rts = at_age (mark % 4) (age_of rts t) (omega arith)
+pub decode_encode : (cell : Option Arrived) (rts : ℕ) → decode_of (encode_of cell rts) ≡ seen_of cell rts
+decode_encode None rts = reads_not_received 0 (omega arith)
+decode_encode (Some a) rts = at_time a.time
+  where
+    at_time : (time : Option ℕ) → decode_of (assembled_of a.mark (ato_of time rts)) ≡ seen_at_time (a.mark % 4) time rts
+    at_time None = fields (a.mark % 4) 0x1FFF (omega arith) (omega arith)
+    at_time (Some t) = at_age (a.mark % 4) (age_of rts t) (omega arith)

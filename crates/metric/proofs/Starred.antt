@@ -4,11 +4,11 @@ use mathlib.Core.Path.{◌≡◌, refl}
 use Rattle.lists.specs.All.{All}
 use Rattle.metric.specs.Metric.{age_of, ato_of_age, ato_of, decode_of}
 use Rattle.metric.specs.Starred.{CaseHolds, cases}
-use Rattle.metric.specs.declared.Time.TheVariants.{Known}
+use Rattle.std.specs.Prelude.{Some}
 
 pub starred : All CaseHolds cases
 unfolding cases ato_of_age decode_of
 starred = (at 0, (at 63, (at 64, (at 524096, (at 524097, (at (2 ^ 31 - 1), (at (2 ^ 31), (refl, (refl, (refl, (refl, tt)))))))))))
   where
-    at : (a rts t : ℕ) → age_of rts t ≡ a → ato_of (Known t) rts ≡ ato_of_age a
+    at : (a rts t : ℕ) → age_of rts t ≡ a → ato_of (Some t) rts ≡ ato_of_age a
     at a rts t e = rw e

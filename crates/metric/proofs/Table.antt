@@ -4,9 +4,9 @@ use mathlib.Core.Path.{◌≡◌, refl}
 use native.Mathlib.Omega.{arith}
 use borrow.Author.Tests.{lt-ltb, le-ltb, lt-leb, le-leb}
 use Rattle.metric.specs.Metric.{ato_of_age, ato_of}
-use Rattle.metric.specs.declared.Time.TheVariants.{Unknown}
+use Rattle.std.specs.Prelude.{None}
 
-pub unknown_row : (rts : ℕ) → ato_of Unknown rts ≡ 0x1FFF
+pub unknown_row : (rts : ℕ) → ato_of None rts ≡ 0x1FFF
 unknown_row rts = refl
 
 pub after_row : (age : ℕ) → 2 ^ 31 ≤ age → ato_of_age age ≡ 0x1FFF

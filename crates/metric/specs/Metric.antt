@@ -2,11 +2,9 @@
 -- number: from the highest R (1 bit), the ECN mark (2 bits) and the arrival time offset (ATO, 13
 -- bits).
 use Rattle.std.specs.Prelude.{ℕ, ◌+◌, ◌-◌, ◌*◌, ◌/◌, ◌%◌, ◌^◌, ◌<◌, Bool, true, false, cond, eqb, ltb, leb}
-use Rattle.metric.specs.declared.Time.{Time}
-use Rattle.metric.specs.declared.Cell.{Cell}
+use Rattle.std.specs.Prelude.{Option, Some, None}
+use Rattle.metric.specs.declared.Arrived.{Arrived}
 use Rattle.metric.specs.declared.Metric.{Metric}
-use Rattle.metric.specs.declared.Time.TheVariants.{Unknown, Known}
-use Rattle.metric.specs.declared.Cell.TheVariants.{Empty, Filled}
 use Rattle.metric.specs.declared.Metric.TheVariants.{NotReceived, Received, OverRange, NoTime}
 
 -- ---- times
@@ -16,14 +14,14 @@ abbrev pub times : ℕ
 times = 2 ^ 32
 
 -- what the type of a time says of it
-abbrev pub TimeInRange : Time → Type 0
-TimeInRange Unknown = Unit {0}
-TimeInRange (Known t) = t < times
+abbrev pub TimeInRange : Option ℕ → Type 0
+TimeInRange None = Unit {0}
+TimeInRange (Some t) = t < times
 
 -- a time that comes with a flag: known or not
-abbrev pub time_of : Bool → ℕ → Time
-time_of true t = Known t
-time_of false t = Unknown
+abbrev pub time_of : Bool → ℕ → Option ℕ
+time_of true t = Some t
+time_of false t = None
 
 -- rule "Age": RTS less the time, modulo 2^32
 abbrev pub age_of : ℕ → ℕ → ℕ
@@ -60,9 +58,9 @@ unfoldable pub ato_of_age : ℕ → ℕ
 ato_of_age age = cond (leb after_rts age) no_time (cond (ltb longest_age age) over_range (age / offset_unit))
 
 -- rule "Offset": 0x1FFF also where the time is unknown
-abbrev pub ato_of : Time → ℕ → ℕ
-ato_of Unknown rts = no_time
-ato_of (Known t) rts = ato_of_age (age_of rts t)
+abbrev pub ato_of : Option ℕ → ℕ → ℕ
+ato_of None rts = no_time
+ato_of (Some t) rts = ato_of_age (age_of rts t)
 
 -- ---- the sixteen bits
 
@@ -83,9 +81,9 @@ abbrev pub assembled_of : ℕ → ℕ → ℕ
 assembled_of mark ato = received_bit + mark_unit * (mark % 4) + ato
 
 -- rules "Not received" and "Received": 0x0000 of an empty cell; of a filled one R = 1, mark, ATO
-abbrev pub encode_of : Cell → ℕ → ℕ
-encode_of Empty rts = 0
-encode_of (Filled mark time) rts = assembled_of mark (ato_of time rts)
+abbrev pub encode_of : Option Arrived → ℕ → ℕ
+encode_of None rts = 0
+encode_of (Some a) rts = assembled_of a.mark (ato_of a.time rts)
 
 -- the mark of a metric, and its ATO
 abbrev pub mark_bits : ℕ → ℕ
@@ -107,10 +105,13 @@ unfoldable pub seen_at_age : ℕ → ℕ → Metric
 seen_at_age mark age =
     cond (leb after_rts age) (NoTime mark) (cond (ltb longest_age age) (OverRange mark) (Received mark (age / offset_unit)))
 
-abbrev pub seen_of : Cell → ℕ → Metric
-seen_of Empty rts = NotReceived
-seen_of (Filled mark Unknown) rts = NoTime (mark % 4)
-seen_of (Filled mark (Known t)) rts = seen_at_age (mark % 4) (age_of rts t)
+abbrev pub seen_at_time : ℕ → Option ℕ → ℕ → Metric
+seen_at_time mark None rts = NoTime mark
+seen_at_time mark (Some t) rts = seen_at_age mark (age_of rts t)
+
+abbrev pub seen_of : Option Arrived → ℕ → Metric
+seen_of None rts = NotReceived
+seen_of (Some a) rts = seen_at_time (a.mark % 4) a.time rts
 
 -- the number of each case, as a caller in C is given it; its mark, and its offset where it has one
 abbrev pub case_number : Metric → ℕ

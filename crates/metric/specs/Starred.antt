@@ -1,9 +1,8 @@
 -- Rules: "Cases at the edges". Those that are proved of the metric, as one list.
-use Rattle.std.specs.Prelude.{ℕ, ◌-◌, ◌^◌, ◌≡◌, List, [], ◌∷◌}
+use Rattle.std.specs.Prelude.{ℕ, ◌-◌, ◌^◌, ◌≡◌, List, [], ◌∷◌, Some}
 use Rattle.metric.specs.Metric.{age_of, ato_of, decode_of}
 use Rattle.metric.specs.declared.Metric.{Metric}
 use Rattle.metric.specs.declared.Metric.TheVariants.{NotReceived, Received, OverRange, NoTime}
-use Rattle.metric.specs.declared.Time.TheVariants.{Known}
 
 pub data Case : Type 0 where
   age : ℕ → ℕ → Case
@@ -11,7 +10,7 @@ pub data Case : Type 0 where
 
 -- whatever RTS and time have that age, the ATO is this; the metric reads as this
 abbrev pub CaseHolds : Case → Type 0
-CaseHolds (age a ato) = (rts t : ℕ) → age_of rts t ≡ a → ato_of (Known t) rts ≡ ato
+CaseHolds (age a ato) = (rts t : ℕ) → age_of rts t ≡ a → ato_of (Some t) rts ≡ ato
 CaseHolds (reads m case) = decode_of m ≡ case
 
 unfoldable pub cases : List Case

@@ -24,19 +24,12 @@ pub const RECEIVED_BIT: u16 = 0x8000;
 
 pub const MARK_UNIT: u16 = 0x2000;
 
-// A time of arrival: a count of 1/65536 s, bits 16 to 47 of a 64-bit NTP timestamp.
+// What is known of a number that arrived: the mark and the time of its first copy; the mark is ECN-CE if any copy
+// carried it. A time is a count of 1/65536 s, bits 16 to 47 of a 64-bit NTP timestamp; None where it is not known.
 #[derive(Clone, Copy)]
-pub enum Time {
-    Unknown,
-    Known(u32),
-}
-
-// What is known of a sequence number: nothing came, or the first copy's time and mark; the mark is ECN-CE if any copy
-// carried it.
-#[derive(Clone, Copy)]
-pub enum Cell {
-    Empty,
-    Filled { mark: u8, time: Time },
+pub struct Arrived {
+    pub mark: u8,
+    pub time: Option<u32>,
 }
 
 // A metric read back. All but NotReceived have an ECN mark, and only Received has an offset.
@@ -49,14 +42,10 @@ pub enum Metric {
 }
 
 // A time that comes with a flag.
-pub fn time_of(known: bool, time: u32) -> Time
+pub fn time_of(known: bool, time: u32) -> Option<u32>
     ensures value { result ≡ time_of known time }
 {
-    if known {
-        Time::Known(time)
-    } else {
-        Time::Unknown
-    }
+    known.then_some(time)
 }
 
 // The metric of a number that was received with a mark, at that offset.

@@ -19,8 +19,7 @@ use Rattle.metric_arrays.specs.Arrays.{Arrays, ArraysAfter, arrays_after, case_f
 use Rattle.metric_arrays.specs.Entries.{RoomFor, EntryIs, SameEntry}
 use Rattle.metric_arrays.proofs.Answers.{short_cases, short_marks, short_offsets, long_enough}
 use Rattle.refusal.specs.declared.Refusal.TheVariants.{OutputTooShort}
-use Rattle.metric_part.specs.declared.PartAnswer.TheVariants.{Case}
-use Rattle.metric_arrays.specs.declared.ArraysAnswer.TheVariants.{Decoded, Refused}
+use Rattle.std.specs.Prelude.{Ok, Err}
 
 -- the fields of the metrics of a part, one by one
 module _ (field : ℕ → ℕ) (s : List ℕ) where
@@ -51,11 +50,11 @@ module _ (field : ℕ → ℕ) (s : List ℕ) where
 
 module _ (part : List ℕ) (a : Arrays) where
   -- arrays that hold all metrics are accepted
-  pub room_decoded : RoomFor a (metric_count part) → (decoded_all part a).answer ≡ Decoded
+  pub room_decoded : RoomFor a (metric_count part) → (decoded_all part a).answer ≡ Ok tt
   room_decoded h = ap (λ (x : ArraysAfter). x.answer) (long_enough part a h.cases h.marks h.offsets)
 
   -- and any others refused with 10, and left as they were
-  pub no_room_refused : (RoomFor a (metric_count part) → ⊥) → decoded_all part a ≡ arrays_after (Refused OutputTooShort) a
+  pub no_room_refused : (RoomFor a (metric_count part) → ⊥) → decoded_all part a ≡ arrays_after (Err OutputTooShort) a
   no_room_refused none =
       split_le (metric_count part) (length a.cases)
       (λ c. split_le (metric_count part) (length a.marks)
@@ -66,7 +65,7 @@ module _ (part : List ℕ) (a : Arrays) where
       (λ c. sym (short_cases part a c))
 
   -- entry j of accepted arrays is what is asked of the part for metric j
-  pub decoded_entry : RoomFor a (metric_count part) → (j : ℕ) (m : Metric) → case_at part j ≡ Case m → EntryIs (decoded_all part a).arrays j m
+  pub decoded_entry : RoomFor a (metric_count part) → (j : ℕ) (m : Metric) → case_at part j ≡ Ok m → EntryIs (decoded_all part a).arrays j m
   decoded_entry h j m e =
       let n = metric_count part in
       split_le n j

@@ -1,42 +1,42 @@
--- A turn over the metrics of a part, for the array of any field. Assumes nothing.
-use Prim.Native.Nat.{ℕ, suc, ◌+◌, ◌-◌, ◌*◌, ◌<◌, ◌≤◌}
-use mathlib.Core.Path.{◌≡◌}
-use mathlib.Core.List.{List, map}
+-- A turn over the metrics of a part. Assumes nothing.
+use Prim.Native.Nat.{ℕ, zero, suc, ◌+◌, ◌*◌}
+use mathlib.Core.Path.{◌≡◌, refl, ap}
+use mathlib.Core.List.{List, [], ◌∷◌, ◌++◌, map}
 use native.Mathlib.Omega.{arith}
-use native.Mathlib.Numerals.{add-one}
-use native.Mathlib.Nat.{sub-zero}
-use lib.ListN.{set}
+use native.Mathlib.Nat.{add-zero}
+use lib.ListN.{length, set}
 use lib.Seq.{sets}
+use Rattle.std.proofs.lemmas.List.{length-map, map-append}
 use Rattle.octets.specs.Octets.{be16}
+use Rattle.octets.proofs.Sets.{sets_next}
 use Rattle.reader.specs.Reading.{metrics_at_of}
-use Rattle.metric_arrays.specs.Arrays.{case_field, mark_field, offset_field, arrays, decoded_into}
+use Rattle.reader.proofs.Answers.{length_metrics_at}
+use Rattle.metric_arrays.specs.Arrays.{Arrays, case_field, mark_field, offset_field, arrays, decoded_into}
 
-module _ (field : ℕ → ℕ) (s : List ℕ) (n : ℕ) where
-  -- the field of each metric, of n, that starts at metric j
-  abbrev fields_from : ℕ → List ℕ
-  fields_from j = map field (metrics_at_of s (2 * j) (n - j))
-
-  -- what is left to write at j makes of the array what all makes of it at the start
-  abbrev pub Left : List ℕ → ℕ → List ℕ → Type 0
-  Left out₀ j out = sets out j (fields_from j) ≡ sets out₀ 0 (map field (metrics_at_of s 0 n))
-
-  pub left_first : (out : List ℕ) → Left out 0 out
-  left_first out = rw sub-zero
-
-  pub left_next : (out₀ out : List ℕ) (j m v : ℕ) → j < n → m ≡ be16 s (2 * j) → v ≡ field m → Left out₀ j out → Left out₀ (j + 1) (set out j v)
+module _ (s : List ℕ) where
+  one_more : (n at : ℕ) → metrics_at_of s at (n + 1) ≡ metrics_at_of s at n ++ be16 s (at + 2 * n) ∷ []
   unfolding metrics_at_of
-  left_next out₀ out j m v h e f l =
-      let z : n - j ≡ suc (n - suc j) = omega arith in
-      let y : 2 * suc j ≡ 2 * j + 2 = omega arith in
-      rw (f, e, add-one j, y) (rw z at l)
+  one_more zero at = rw add-zero
+  one_more (suc n) at =
+      let e : at + 2 + 2 * n ≡ at + 2 * suc n = omega arith in
+      let l : suc n + 1 ≡ suc (n + 1) = omega arith in
+      rw (l, ← e) (ap (λ (ms : List ℕ). be16 s at ∷ ms) (one_more n (at + 2)))
 
-  pub left_done : (out₀ out : List ℕ) (j : ℕ) → n ≤ j → Left out₀ j out → out ≡ sets out₀ 0 (map field (metrics_at_of s 0 n))
+  field_next : (field : ℕ → ℕ) (out : List ℕ) (n : ℕ)
+      → set (sets out 0 (map field (metrics_at_of s 0 n))) n (field (be16 s (2 * n))) ≡ sets out 0 (map field (metrics_at_of s 0 (n + 1)))
+  field_next field out n =
+      let l : 0 + length (map field (metrics_at_of s 0 n)) ≡ n = omega (arith, length-map (metrics_at_of s 0 n) field, length_metrics_at s n 0) in
+      let e : 0 + 2 * n ≡ 2 * n = omega arith in
+      rw (one_more n 0, e, map-append field (metrics_at_of s 0 n) (be16 s (2 * n) ∷ []))
+      (sets_next (map field (metrics_at_of s 0 n)) (field (be16 s (2 * n)) ∷ []) out 0 n l)
+
+  pub decoded_none : (a : Arrays) → a ≡ decoded_into (metrics_at_of s 0 0) a
   unfolding metrics_at_of
-  left_done out₀ out j h l = let z : n - j ≡ 0 = omega arith in rw z at l
+  decoded_none a = refl
 
--- all three arrays at the end
-pub filled : (s : List ℕ) (n : ℕ) (cs₀ ms₀ os₀ cs ms os : List ℕ) (j : ℕ) → n ≤ j
-    → Left case_field s n cs₀ j cs → Left mark_field s n ms₀ j ms → Left offset_field s n os₀ j os
-    → arrays cs ms os ≡ decoded_into (metrics_at_of s 0 n) (arrays cs₀ ms₀ os₀)
-filled s n cs₀ ms₀ os₀ cs ms os j h c m o =
-    rw (left_done case_field s n cs₀ cs j h c, left_done mark_field s n ms₀ ms j h m, left_done offset_field s n os₀ os j h o)
+  -- what the three writes of a turn make of the arrays
+  pub decoded_next : (a b : Arrays) (n m case mark offset : ℕ) → b ≡ decoded_into (metrics_at_of s 0 n) a
+      → m ≡ be16 s (2 * n) → case ≡ case_field m → mark ≡ mark_field m → offset ≡ offset_field m
+      → arrays (set b.cases n case) (set b.marks n mark) (set b.offsets n offset) ≡ decoded_into (metrics_at_of s 0 (n + 1)) a
+  decoded_next a b n m case mark offset h e c k o =
+      rw (c, k, o, e, h, field_next case_field a.cases n, field_next mark_field a.marks n, field_next offset_field a.offsets n)

@@ -1,13 +1,12 @@
 -- Rules: "Decoding all metrics". All metrics of a part in three arrays: entry j has the number of
 -- metric j's case, its mark and its offset, and 0 where the case has no mark or no offset.
-use Rattle.std.specs.Prelude.{ℕ, ◌/◌, cond, List, map, length, ltb}
+use Rattle.std.specs.Prelude.{ℕ, ◌/◌, cond, List, map, length, ltb, Result, Ok, Err}
 use Rattle.std.proofs.lemmas.List.Edits.{sets}
 use Rattle.metric.specs.Metric.{case_number, decode_of}
 use Rattle.metric_fields.specs.Fields.{mark_or, offset_or}
 use Rattle.reader.specs.Reading.{metrics_at_of}
-use Rattle.metric_arrays.specs.declared.ArraysAnswer.{ArraysAnswer}
+use Rattle.refusal.specs.declared.Refusal.{Refusal}
 use Rattle.refusal.specs.declared.Refusal.TheVariants.{OutputTooShort}
-use Rattle.metric_arrays.specs.declared.ArraysAnswer.TheVariants.{Decoded, Refused}
 
 pub record Arrays : Type 0 where
   pub cases : List ℕ
@@ -19,10 +18,10 @@ arrays cs ms os = record { cases = cs; marks = ms; offsets = os }
 
 -- the answer to the call, and the arrays after it
 pub record ArraysAfter : Type 0 where
-  pub answer : ArraysAnswer
+  pub answer : Result (Unit {0}) Refusal
   pub arrays : Arrays
 
-abbrev pub arrays_after : ArraysAnswer → Arrays → ArraysAfter
+abbrev pub arrays_after : Result (Unit {0}) Refusal → Arrays → ArraysAfter
 arrays_after r a = record { answer = r; arrays = a }
 
 -- the three fields of a metric
@@ -47,7 +46,7 @@ metric_count part = length part / 2
 -- 10 where an array is shorter than that; all three then stay
 unfoldable pub decoded_all : List ℕ → Arrays → ArraysAfter
 decoded_all part a =
-    cond (ltb (length a.cases) (metric_count part)) (arrays_after (Refused OutputTooShort) a)
-    (cond (ltb (length a.marks) (metric_count part)) (arrays_after (Refused OutputTooShort) a)
-    (cond (ltb (length a.offsets) (metric_count part)) (arrays_after (Refused OutputTooShort) a)
-    (arrays_after Decoded (decoded_into (metrics_at_of part 0 (metric_count part)) a))))
+    cond (ltb (length a.cases) (metric_count part)) (arrays_after (Err OutputTooShort) a)
+    (cond (ltb (length a.marks) (metric_count part)) (arrays_after (Err OutputTooShort) a)
+    (cond (ltb (length a.offsets) (metric_count part)) (arrays_after (Err OutputTooShort) a)
+    (arrays_after (Ok tt) (decoded_into (metrics_at_of part 0 (metric_count part)) a))))

@@ -5,21 +5,21 @@ ghost use Rattle.std.specs.Prelude.{◌≡◌, ◌<◌};
 ghost use Rattle.metric.specs.Metric.{ato_of_age, ato_of, mark_unit, encode_of};
 
 use arrival_offset::AFTER_RTS;
-use metric::{Cell, Time};
+use metric::Arrived;
 
 // The age of a time, seen from RTS. An unknown time counts as one after RTS: neither has an offset. So an unknown time
 // is chosen like any other case and needs no jump.
-fn age_of(time: Time, rts: u32) -> u32
+fn age_of(time: Option<u32>, rts: u32) -> u32
     ensures value { ato_of_age result ≡ ato_of time rts }
 {
     match time {
-        Time::Unknown => AFTER_RTS,
-        Time::Known(t) => arrival_offset::age(rts, t),
+        None => AFTER_RTS,
+        Some(t) => arrival_offset::age(rts, t),
     }
 }
 
 // The arrival time offset of a time, seen from RTS.
-pub fn ato(time: Time, rts: u32) -> u16
+pub fn ato(time: Option<u32>, rts: u32) -> u16
     ensures value { result ≡ ato_of time rts }
     ensures bits { result < mark_unit }
 {
@@ -27,11 +27,11 @@ pub fn ato(time: Time, rts: u32) -> u16
 }
 
 // The metric of a cell at RTS.
-pub fn encode(cell: Cell, rts: u32) -> u16
+pub fn encode(cell: Option<Arrived>, rts: u32) -> u16
     ensures value { result ≡ encode_of cell rts }
 {
     match cell {
-        Cell::Empty => 0,
-        Cell::Filled { mark, time } => metric::assembled(mark, ato(time, rts)),
+        None => 0,
+        Some(Arrived { mark, time }) => metric::assembled(mark, ato(time, rts)),
     }
 }

@@ -7,7 +7,7 @@ ghost use Rattle.std.specs.Prelude.{◌≡◌, ◌-◌, cond, ltb};
 ghost use Rattle.metric.specs.Metric.{largest_offset, received_bit, case_number, decode_of};
 ghost use Rattle.metric_fields.specs.Fields.{mark_or, offset_or};
 
-use metric::{MARK_UNIT, OVER_RANGE, RECEIVED_BIT};
+use metric::{MARK_UNIT, RECEIVED_BIT};
 
 // The largest offset, 8189; the two ATOs above it are codes.
 const LARGEST_OFFSET: u16 = 0x1FFD;
@@ -26,13 +26,11 @@ fn received_bits(m: u16) -> u16
 fn above_offsets(ato: u16) -> u16
     ensures value { result ≡ ato - largest_offset }
 {
-    if ato < OVER_RANGE {
-        return 0;
-    }
-    ato - LARGEST_OFFSET
+    ato.saturating_sub(LARGEST_OFFSET)
 }
 
 // The number of a metric's case: R counts 1, and the codes add 1 and 2.
+#[tactic(auto, using(crate::proofs::Bits::number_read))]
 pub fn case_number(m: u16) -> u8
     ensures value { result ≡ case_number (decode_of m) }
 {
@@ -41,6 +39,7 @@ pub fn case_number(m: u16) -> u8
 }
 
 // The mark of a metric; 0 where its case has none.
+#[tactic(auto, using(crate::proofs::Bits::mark_read))]
 pub fn mark_or_zero(m: u16) -> u8
     ensures value { result ≡ mark_or (decode_of m) 0 }
 {
@@ -49,6 +48,7 @@ pub fn mark_or_zero(m: u16) -> u8
 }
 
 // The offset of a metric; 0 where its case has none.
+#[tactic(auto, using(crate::proofs::Bits::offset_read, crate::proofs::Bits::offset_none))]
 pub fn offset_or_zero(m: u16) -> u16
     ensures value { result ≡ offset_or (decode_of m) 0 }
 {

@@ -8,14 +8,9 @@ use metric::Metric;
 use refusal::Refusal;
 use walk::ReportBlock;
 
-#[derive(Clone, Copy)]
-pub enum PartAnswer {
-    Case(Metric),
-    Refused(Refusal),
-}
-
 // The part of the packet that holds the metrics of a block, 2 octets each; empty where the packet does not hold them
 // all.
+#[tactic(auto, using(crate::proofs::Parts::part_held, crate::proofs::Parts::part_not_held))]
 pub fn metrics_of<'a>(packet: &'a [u8], b: ReportBlock) -> &'a [u8]
     ensures part { result.now ≡ part_of packet.now b }
 {
@@ -32,11 +27,11 @@ pub fn metrics_of<'a>(packet: &'a [u8], b: ReportBlock) -> &'a [u8]
 }
 
 // Metric j, from 0, of a part that holds metrics. No block is walked.
-pub fn metric_at(part: &[u8], j: usize) -> PartAnswer
+pub fn metric_at(part: &[u8], j: usize) -> Result<Metric, Refusal>
     ensures value { result ≡ case_at part.now j }
 {
     if part.len() / 2 <= j {
-        return PartAnswer::Refused(Refusal::NoNumber);
+        return Err(Refusal::NoNumber);
     }
-    PartAnswer::Case(metric_decode::decode(octets::get16(part, 2 * j)))
+    Ok(metric_decode::decode(octets::get16(part, 2 * j)))
 }

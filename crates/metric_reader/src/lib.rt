@@ -3,38 +3,22 @@
 #![tactic(auto)]
 
 ghost use Rattle.std.specs.Prelude.{◌≡◌};
-ghost use Rattle.block_reader.specs.Blocks.{read_block};
-ghost use Rattle.metric_reader.specs.Metrics.{block_refusal, metrics_part, read_metric};
+ghost use Rattle.metric_reader.specs.Metrics.{lent_part, read_metric, read_part};
 
-use block_reader::BlockAnswer;
-use reports::MetricAnswer;
+use refusal::Refusal;
+use reports::Reported;
 
-// The part of the packet that holds the metrics of block k, and 0 in `refused`. Where the block is refused: an empty part,
-// and the number of the refusal.
-pub fn block_metrics<'a>(packet: &'a [u8], k: usize, refused: &mut u8) -> &'a [u8]
-    ensures part { result.now ≡ metrics_part (read_block packet.now k) packet.now }
-    ensures number { refused.new ≡ block_refusal (read_block packet.now k) }
+// The part of the packet that holds the metrics of block k.
+pub fn block_metrics<'a>(packet: &'a [u8], k: usize) -> Result<&'a [u8], Refusal>
+    ensures part { lent_part result ≡ read_part packet.now k }
 {
-    let answer = block_reader::block(packet, k);
-    match answer {
-        BlockAnswer::Found(b) => {
-            *refused = 0;
-            metric_part::metrics_of(packet, b)
-        }
-        BlockAnswer::Refused(e) => {
-            *refused = refusal::number(e);
-            &packet[..0]
-        }
-    }
+    Ok(metric_part::metrics_of(packet, block_reader::block(packet, k)?))
 }
 
 // Metric j, from 0, of block k.
-pub fn metric(packet: &[u8], k: usize, j: usize) -> MetricAnswer
+#[tactic(auto, using(crate::proofs::Within::located_within))]
+pub fn metric(packet: &[u8], k: usize, j: usize) -> Result<Reported, Refusal>
     ensures value { result ≡ read_metric packet.now k j }
 {
-    let answer = block_reader::block(packet, k);
-    match answer {
-        BlockAnswer::Found(b) => reports::metric_in(packet, b, j),
-        BlockAnswer::Refused(e) => MetricAnswer::Refused(e),
-    }
+    reports::metric_in(packet, block_reader::block(packet, k)?, j)
 }

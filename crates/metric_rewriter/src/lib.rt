@@ -30,12 +30,10 @@ pub fn rewrite_metrics(packet: &[u8], out: &mut [u8], at: usize, n: usize)
     ensures content { out.new
         ≡ sets out.old at (encode_metrics (map rewrite_metric (metrics_at_of packet.now at n))) }
 {
-    let mut j = 0;
-    while j < n {
+    for j in 0..n {
         let i = at + 2 * j;
         let m = rewrite_low_first(low_first::low_first_at(packet, i));
         out[i] = (m % OCTET_VALUES) as u8;
         out[i + 1] = (m / OCTET_VALUES) as u8;
-        j += 1;
     }
 }

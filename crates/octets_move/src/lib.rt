@@ -9,9 +9,5 @@ pub fn move_to_front(s: &mut [u8], from: usize)
     requires within { from ≤ length s.old }
     ensures content { s.new ≡ sets s.old 0 (drop from s.old) }
 {
-    let mut i = 0;
-    while i < s.len() - from {
-        s[i] = s[from + i];
-        i += 1;
-    }
+    s.copy_within(from.., 0);
 }

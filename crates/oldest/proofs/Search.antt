@@ -13,7 +13,7 @@ use Rattle.window.specs.Number.{sequence_numbers}
 use Rattle.cells.specs.Cell.{read_cell}
 use Rattle.oldest.specs.Oldest.{window_number, is_filled, has_arrived, number_found, oldest_in}
 use Rattle.oldest.specs.Steps.{filled_at, first_filled}
-use Rattle.lists.specs.declared.Found.TheVariants.{At, Nothing}
+use Rattle.std.specs.Prelude.{Some, None}
 
 -- modulo 65536 and then modulo 2048 is modulo 2048
 low_slot : (n : ℕ) → n % sequence_numbers % cells_of_a_place ≡ n % cells_of_a_place
@@ -49,17 +49,17 @@ module _ (cells : List ℕ) (p highest : ℕ) where
       at_slot (older highest + i) i (window_slot highest (older highest + i) (omega arith) ∙ e)
 
   -- found among the older ones
-  pub found_older : (i : ℕ) → first_filled cells (base + newer highest) (older highest) ≡ At i → window_number highest i ≡ oldest_in cells p highest
+  pub found_older : (i : ℕ) → first_filled cells (base + newer highest) (older highest) ≡ Some i → window_number highest i ≡ oldest_in cells p highest
   unfolding oldest_in
   found_older i f =
       let l = first_below (filled_at cells (base + newer highest)) (older highest) 0 i f in
-      let e : first_from (has_arrived cells p highest) 0 cells_of_a_place ≡ At i =
+      let e : first_from (has_arrived cells p highest) 0 cells_of_a_place ≡ Some i =
       first_at (has_arrived cells p highest) cells_of_a_place 0 i (omega arith) (omega arith)
       (arrived_older i (omega arith) ∙ first_true (filled_at cells (base + newer highest)) (older highest) 0 i f)
       (λ k b a. arrived_older k (omega arith) ∙ first_before (filled_at cells (base + newer highest)) (older highest) 0 i k f a b) in
       sym (ap (number_found highest) e)
 
-  module _ (none : first_filled cells (base + newer highest) (older highest) ≡ Nothing) where
+  module _ (none : first_filled cells (base + newer highest) (older highest) ≡ None) where
     none_older : (k : ℕ) → k < older highest → has_arrived cells p highest k ≡ false
     none_older k l = arrived_older k l ∙ first_false (filled_at cells (base + newer highest)) (older highest) 0 k none (omega arith) (omega arith)
 
@@ -72,21 +72,21 @@ module _ (cells : List ℕ) (p highest : ℕ) where
         (λ g. none_older k g)
 
     -- found among the newer ones
-    pub found_newer : (i : ℕ) → first_filled cells base (newer highest) ≡ At i → window_number highest (older highest + i) ≡ oldest_in cells p highest
+    pub found_newer : (i : ℕ) → first_filled cells base (newer highest) ≡ Some i → window_number highest (older highest + i) ≡ oldest_in cells p highest
     unfolding oldest_in
     found_newer i f =
         let l = first_below (filled_at cells base) (newer highest) 0 i f in
-        let e : first_from (has_arrived cells p highest) 0 cells_of_a_place ≡ At (older highest + i) =
+        let e : first_from (has_arrived cells p highest) 0 cells_of_a_place ≡ Some (older highest + i) =
         first_at (has_arrived cells p highest) cells_of_a_place 0 (older highest + i) (omega arith) (omega arith)
         (arrived_newer i (omega arith) ∙ first_true (filled_at cells base) (newer highest) 0 i f)
         (λ k b a. not_yet k i b (omega arith) (λ j g. first_before (filled_at cells base) (newer highest) 0 i j f (omega arith) g)) in
         sym (ap (number_found highest) e)
 
     -- none arrived
-    pub found_none : first_filled cells base (newer highest) ≡ Nothing → highest ≡ oldest_in cells p highest
+    pub found_none : first_filled cells base (newer highest) ≡ None → highest ≡ oldest_in cells p highest
     unfolding oldest_in
     found_none f =
-        let e : first_from (has_arrived cells p highest) 0 cells_of_a_place ≡ Nothing =
+        let e : first_from (has_arrived cells p highest) 0 cells_of_a_place ≡ None =
         first_nothing (has_arrived cells p highest) cells_of_a_place
         (λ k l. not_yet k (newer highest) (omega arith) (omega arith) (λ j g. first_false (filled_at cells base) (newer highest) 0 j f (omega arith) (omega arith))) in
         sym (ap (number_found highest) e)

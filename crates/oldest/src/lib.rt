@@ -8,17 +8,8 @@ ghost use Rattle.oldest.specs.Oldest.{window_number, oldest_in, oldest_of};
 ghost use Rattle.oldest.specs.Steps.{first_filled};
 
 use cells::{KINDS, LEAST_FILLED};
-use lists::Found;
-use places::Holding;
 use refusal::Refusal;
 use ring::CELLS_OF_A_PLACE;
-
-// The answer to which number of the window of a place is the oldest that arrived.
-#[derive(Clone, Copy)]
-pub enum OldestAnswer {
-    Number(u16),
-    Refused(Refusal),
-}
 
 // Number i, from 0, of the window that ends with highest, in rising order.
 fn window_number(highest: u16, i: usize) -> u16
@@ -29,18 +20,12 @@ fn window_number(highest: u16, i: usize) -> u16
 }
 
 // The first of count cells, starting at start, that is filled; counted from start.
-fn first_filled(cells: &[u64], start: usize, count: usize) -> Found
+fn first_filled(cells: &[u64], start: usize, count: usize) -> Option<usize>
     requires room { start + count ≤ length cells.now }
     ensures value { result ≡ first_filled cells.now start count }
 {
-    let mut i = 0;
-    while i < count {
-        if LEAST_FILLED <= cells[start + i] % KINDS {
-            return Found::At(i);
-        }
-        i += 1;
-    }
-    Found::Nothing
+    let part = &cells[start..start + count];
+    part.iter().position(|&word| LEAST_FILLED <= word % KINDS)
 }
 
 // The oldest number that arrived, of the window of the place p that ends with highest; highest
@@ -53,31 +38,19 @@ fn oldest_in(cells: &[u64], p: usize, highest: u16) -> u16
     let base = CELLS_OF_A_PLACE * p;
     let newer = ((highest as usize) + 1) % CELLS_OF_A_PLACE;
     let older = CELLS_OF_A_PLACE - newer;
-    let among_older = first_filled(cells, base + newer, older);
-    if let Found::At(i) = among_older {
+    if let Some(i) = first_filled(cells, base + newer, older) {
         return window_number(highest, i);
     }
-    let among_newer = first_filled(cells, base, newer);
-    if let Found::At(i) = among_newer {
+    if let Some(i) = first_filled(cells, base, newer) {
         return window_number(highest, older + i);
     }
     highest
 }
 
 // The oldest number that arrived, of the window of the stream of place k, from 0: refusals 4, 5.
-pub fn oldest(places: &[u64], cells: &[u64], k: usize) -> OldestAnswer
+pub fn oldest(places: &[u64], cells: &[u64], k: usize) -> Result<u16, Refusal>
     ensures value { result ≡ oldest_of places.now cells.now k }
 {
-    let sound = places::is_shaped(places, cells);
-    if !sound {
-        return OldestAnswer::Refused(Refusal::BadStore);
-    }
-    if places.len() <= k {
-        return OldestAnswer::Refused(Refusal::NotHeld);
-    }
-    let held = places::read_place(places[k]);
-    match held {
-        Holding::Held { ssrc: _, highest } => OldestAnswer::Number(oldest_in(cells, k, highest)),
-        Holding::Free => OldestAnswer::Refused(Refusal::NotHeld),
-    }
+    let stream = store::place(places, cells, k)?;
+    Ok(oldest_in(cells, k, stream.highest))
 }

@@ -13,7 +13,9 @@ use Rattle.ring.specs.Ring.{cells_of_a_place}
 use Rattle.window.specs.Number.{distance_of, sequence_numbers}
 use Rattle.places.specs.Place.{place_at, find_of}
 use Rattle.places.specs.Held.{HeldAt}
-use Rattle.places.specs.declared.Holding.{Holding}
+use Rattle.std.specs.Prelude.{Option, Result, Some, Ok}
+use Rattle.std.proofs.lemmas.Option.{same_Some}
+use Rattle.places.specs.declared.Stream.{Stream}
 use Rattle.places.proofs.Held.{held_found}
 use Rattle.places.proofs.Shape.{shaped_is}
 use Rattle.place_window.specs.Window.{cell_at}
@@ -32,9 +34,6 @@ use Rattle.oldest.specs.Oldest.{oldest_in, oldest_of}
 use Rattle.oldest_laws.specs.Given.{NotArrived, OldestIs, arrived, none, up_to_highest}
 use Rattle.oldest_laws.specs.ByHistory.{OldestArrived}
 use Rattle.oldest_laws.proofs.Given.{distance_back, oldest_is, oldest_range}
-use Rattle.lists.specs.declared.Found.TheVariants.{At}
-use Rattle.places.specs.declared.Holding.TheVariants.{Held}
-use Rattle.oldest.specs.declared.OldestAnswer.TheVariants as answer
 
 -- ---- entries
 -- the highest full number of a stream that has begun is that of an arrival
@@ -43,7 +42,7 @@ attained [] g = absurd (omega arith)
 attained (a ∷ l) g = highest_attained a l
 
 -- ---- a window that reads as the entries say
-module _ (cells : List ℕ) (p : ℕ) (h : Holding) (ssrc : ℕ) (past : List Accepted) (held : Holds cells p h ssrc (top_of past) (entries_of past)) where
+module _ (cells : List ℕ) (p : ℕ) (h : Option Stream) (ssrc : ℕ) (past : List Accepted) (held : Holds cells p h ssrc (top_of past) (entries_of past)) where
   abbrev top : ℕ
   top = top_of past
 
@@ -83,31 +82,31 @@ module _ (cells : List ℕ) (p : ℕ) (h : Holding) (ssrc : ℕ) (past : List Ac
 
 -- ---- every list of calls to a fresh store
 module _ (st : Store) (new : Fresh st) (cs : List Call) (range : All CallInRange cs) (k ssrc highest : ℕ)
-    (is : place_at (store_run st cs).places k ≡ Held ssrc highest) where
+    (is : place_at (store_run st cs).places k ≡ Some (record { ssrc = ssrc; highest = highest })) where
   held_at : HeldAt (store_run st cs).places ssrc k highest
   held_at = record { holds = is; first = first }
     where
-      first : (j h : ℕ) → j < k → place_at (store_run st cs).places j ≡ Held ssrc h → ⊥
+      first : (j h : ℕ) → j < k → place_at (store_run st cs).places j ≡ Some (record { ssrc = ssrc; highest = h }) → ⊥
       first j h l e = let q = no_ssrc_twice st new cs range ssrc j k h highest e is in omega arith
 
-  found : find_of (store_run st cs).places ssrc ≡ At k
+  found : find_of (store_run st cs).places ssrc ≡ Some k
   found = (held_found (store_run st cs).places ssrc k highest held_at).0
 
   holds : Holds (store_run st cs).cells k (place_at (store_run st cs).places k) ssrc (top_of (history_of st cs ssrc)) (entries_of (history_of st cs ssrc))
   holds = by_history st new cs range ssrc k found
 
-  same_highest : (a b : ℕ) → place_at (store_run st cs).places k ≡ Held ssrc a → place_at (store_run st cs).places k ≡ Held ssrc b → a ≡ b
-  same_highest a b e f = cc
+  same_highest : (a b : ℕ) → place_at (store_run st cs).places k ≡ Some (record { ssrc = ssrc; highest = a }) → place_at (store_run st cs).places k ≡ Some (record { ssrc = ssrc; highest = b }) → a ≡ b
+  same_highest a b e f = ap (λ (x : Stream). x.highest) (same_Some _ _ (sym e ∙ f))
 
   highest_is : highest ≡ top_of (history_of st cs ssrc) % sequence_numbers
   highest_is = same_highest _ _ is holds.place
 
-  answered : oldest_of (store_run st cs).places (store_run st cs).cells k ≡ answer.Number (oldest_in (store_run st cs).cells k highest)
+  answered : oldest_of (store_run st cs).places (store_run st cs).cells k ≡ Ok (oldest_in (store_run st cs).cells k highest)
   answered = rw (shaped_is _ _ (same_reading st new cs range).shape, is)
 
   -- the answer for a stream that the store holds is the lowest number of its window that an
   -- accepted arrival had since it took its place
-  pub oldest_by_history : (s : ℕ) × ((oldest_of (store_run st cs).places (store_run st cs).cells k ≡ answer.Number s) × OldestArrived (history_of st cs ssrc) s)
+  pub oldest_by_history : (s : ℕ) × ((oldest_of (store_run st cs).places (store_run st cs).cells k ≡ Ok s) × OldestArrived (history_of st cs ssrc) s)
   oldest_by_history = (
     oldest_in (store_run st cs).cells k highest,
     (
@@ -120,13 +119,13 @@ module _ (st : Store) (new : Fresh st) (cs : List Call) (range : All CallInRange
   -- ---- the request that starts with the oldest number and ends with highest, after requests for
   -- other streams
   module _ (earlier : List Request) (other : Named ssrc earlier → ⊥) (s : ℕ)
-      (given : oldest_of (store_run st cs).places (store_run st cs).cells k ≡ answer.Number s) where
+      (given : oldest_of (store_run st cs).places (store_run st cs).cells k ≡ Ok s) where
     in_window : InWindow highest s (distance_of highest s + 1)
     in_window =
         let e : oldest_in (store_run st cs).cells k highest ≡ s = same_number _ _ (sym answered ∙ given) in
         oldest_range (store_run st cs).cells k highest s (omega (arith, highest_is)) (rw e at (oldest_is (store_run st cs).cells k highest))
       where
-        same_number : (a b : ℕ) → answer.Number a ≡ answer.Number b → a ≡ b
+        same_number : (a b : ℕ) → ◌≡◌ {A = Result ℕ Refusal} (Ok a) (Ok b) → a ≡ b
         same_number a b e = cc
 
     -- it is sound: place k is the first that holds the stream, and the range lies in the window

@@ -8,37 +8,32 @@ use native.Mathlib.Omega.{arith}
 use native.Mathlib.Decide.{dec_lt}
 use lib.ListN.{length}
 use Rattle.lists.specs.First.{first_from}
-use Rattle.lists.specs.declared.Found.{Found}
+use Rattle.std.specs.Prelude.{Option, Result, Some, None, Ok}
+use Rattle.metric.specs.declared.Arrived.{Arrived}
+use Rattle.refusal.specs.declared.Refusal.{Refusal}
+use Rattle.places.specs.declared.Stream.{Stream}
 use Rattle.lists.proofs.Cases.{split_le}
 use Rattle.lists.proofs.First.{first_below, first_true, first_false, first_before, first_at, first_nothing}
-use Rattle.metric.specs.declared.Time.{Time}
-use Rattle.metric.specs.declared.Cell.{Cell}
 use Rattle.ring.specs.Ring.{cells_of_a_place}
 use Rattle.window.specs.Number.{distance_of, sequence_numbers}
 use Rattle.places.specs.Place.{place_at}
 use Rattle.places.specs.Shape.{Shaped}
-use Rattle.places.specs.declared.Holding.{Holding}
 use Rattle.places.proofs.Shape.{right, wrong, Shape, shaped_is, misshapen_is, shape_of}
 use Rattle.places.proofs.Held.{past_free}
 use Rattle.place_window.specs.Window.{cell_at}
 use Rattle.cells.specs.Cell.{read_cell}
 use Rattle.oldest.specs.Oldest.{window_number, is_filled, has_arrived, number_found, oldest_in, oldest_at, oldest_of}
-use Rattle.oldest.specs.declared.OldestAnswer.{OldestAnswer}
 use Rattle.writer_laws.specs.Refused.{InWindow}
 use Rattle.oldest_laws.specs.Given.{NotArrived, OldestIs, arrived, none, OldestGiven}
-use Rattle.lists.specs.declared.Found.TheVariants.{At, Nothing}
-use Rattle.metric.specs.declared.Cell.TheVariants.{Empty, Filled}
-use Rattle.places.specs.declared.Holding.TheVariants.{Free, Held}
-use Rattle.oldest.specs.declared.OldestAnswer.TheVariants as answer
 
 -- ---- a cell is filled or empty
-filled_is : (c : Cell) → is_filled c ≡ true → (mark : ℕ) × ((time : Time) × (c ≡ Filled mark time))
-filled_is Empty t = absurd (false≢true t)
-filled_is (Filled mark time) t = (mark, (time, refl))
+filled_is : (c : Option Arrived) → is_filled c ≡ true → (mark : ℕ) × ((time : Option ℕ) × (c ≡ Some (record { mark = mark; time = time })))
+filled_is None t = absurd (false≢true t)
+filled_is (Some a) t = (a.mark, (a.time, refl))
 
-empty_is : (c : Cell) → is_filled c ≡ false → c ≡ Empty
-empty_is Empty t = refl
-empty_is (Filled mark time) t = absurd (true≢false t)
+empty_is : (c : Option Arrived) → is_filled c ≡ false → c ≡ None
+empty_is None t = refl
+empty_is (Some a) t = absurd (true≢false t)
 
 -- the number b behind highest is b behind it
 pub distance_back : (highest b : ℕ) → highest < sequence_numbers → b < sequence_numbers → distance_of highest (distance_of highest b) ≡ b
@@ -60,13 +55,13 @@ module _ (cells : List ℕ) (p highest : ℕ) where
   not_arrived : (b : ℕ) → b < cells_of_a_place → has_arrived cells p highest (cells_of_a_place - 1 - b) ≡ false → NotArrived cells p highest b
   not_arrived b l t = empty_is _ (sym (cell_behind b l) ∙ t)
 
-  by_search : (f : Found) → first_from (has_arrived cells p highest) 0 cells_of_a_place ≡ f → OldestIs cells p highest (number_found highest f)
-  by_search (At i) e =
+  by_search : (f : Option ℕ) → first_from (has_arrived cells p highest) 0 cells_of_a_place ≡ f → OldestIs cells p highest (number_found highest f)
+  by_search (Some i) e =
       let l = first_below (has_arrived cells p highest) cells_of_a_place 0 i e in
       let f = filled_is _ (first_true (has_arrived cells p highest) cells_of_a_place 0 i e) in
       arrived (cells_of_a_place - 1 - i) f.0 f.1.0 (omega arith) f.1.1
       (λ c a b. not_arrived c b (first_before (has_arrived cells p highest) cells_of_a_place 0 i (cells_of_a_place - 1 - c) e (omega arith) (omega arith)))
-  by_search Nothing e =
+  by_search None e =
       none (λ c l. not_arrived c l (first_false (has_arrived cells p highest) cells_of_a_place 0 (cells_of_a_place - 1 - c) e (omega arith) (omega arith)))
 
   pub oldest_is : OldestIs cells p highest (oldest_in cells p highest)
@@ -81,12 +76,12 @@ module _ (cells : List ℕ) (p highest : ℕ) where
   pub oldest_only : (n : ℕ) → OldestIs cells p highest n → n ≡ oldest_in cells p highest
   unfolding oldest_in
   oldest_only n (arrived b mark time l f before) =
-      let found : first_from (has_arrived cells p highest) 0 cells_of_a_place ≡ At (cells_of_a_place - 1 - b) =
+      let found : first_from (has_arrived cells p highest) 0 cells_of_a_place ≡ Some (cells_of_a_place - 1 - b) =
       first_at (has_arrived cells p highest) cells_of_a_place 0 (cells_of_a_place - 1 - b) (omega arith) (omega arith) (cell_behind b l ∙ ap is_filled f)
       (λ i a g. not_filled i (omega arith) (before (cells_of_a_place - 1 - i) (omega arith) (omega arith))) in
       rw found (sym (behind b l))
   oldest_only n (none before) =
-      let found : first_from (has_arrived cells p highest) 0 cells_of_a_place ≡ Nothing =
+      let found : first_from (has_arrived cells p highest) 0 cells_of_a_place ≡ None =
       first_nothing (has_arrived cells p highest) cells_of_a_place (λ i l. not_filled i l (before (cells_of_a_place - 1 - i) (omega arith))) in
       rw found
 
@@ -101,9 +96,9 @@ oldest_range cells p highest n h o = record { some = λ g. (near n o, omega arit
 
 -- ---- the call
 module _ (places cells : List ℕ) (k : ℕ) where
-  held_given : Shaped places cells → (h : Holding) → place_at places k ≡ h → OldestGiven places cells k (oldest_at cells k h)
-  held_given s (Held x highest) e = OldestGiven.held s x highest (oldest_in cells k highest) e (oldest_is cells k highest)
-  held_given s Free e =
+  held_given : Shaped places cells → (h : Option Stream) → place_at places k ≡ h → OldestGiven places cells k (oldest_at cells k h)
+  held_given s (Some s') e = OldestGiven.held s s'.ssrc s'.highest (oldest_in cells k s'.highest) e (oldest_is cells k s'.highest)
+  held_given s None e =
       elim (dec_lt k (length places)) [
         | yes l ↦ OldestGiven.is_free s l e
         | no l ↦ OldestGiven.not_there s (omega arith)
@@ -118,8 +113,8 @@ module _ (places cells : List ℕ) (k : ℕ) where
   oldest_given = shape_given (shape_of places cells)
 
   -- and no other answer is given for a reason of the rules
-  pub answer_only : (a : OldestAnswer) → OldestGiven places cells k a → a ≡ oldest_of places cells k
+  pub answer_only : (a : Result ℕ Refusal) → OldestGiven places cells k a → a ≡ oldest_of places cells k
   answer_only a (OldestGiven.bad_store m) = rw (misshapen_is places cells m)
   answer_only a (OldestGiven.not_there s l) = rw (shaped_is places cells s, past_free places k l)
   answer_only a (OldestGiven.is_free s l e) = rw (shaped_is places cells s, e)
-  answer_only a (OldestGiven.held s x highest n e o) = rw (shaped_is places cells s, e) (ap answer.Number (oldest_only cells k highest n o))
+  answer_only a (OldestGiven.held s x highest n e o) = rw (shaped_is places cells s, e) (ap Ok (oldest_only cells k highest n o))

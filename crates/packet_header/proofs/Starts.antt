@@ -8,25 +8,25 @@ use Rattle.refusal.specs.declared.Refusal.TheVariants.{PacketTooShort, BadVersio
 use Rattle.lists.proofs.Cases.{never, split_le, split_eq}
 use Rattle.packet_header.specs.Header.{version_of, padding_of, format_of, type_of, length_of, start_of}
 use Rattle.packet_header.specs.declared.Cursor.{Cursor}
-use Rattle.packet_header.specs.declared.Start.TheVariants.{At, Refused}
+use Rattle.std.specs.Prelude.{Ok, Err}
 
 module _ (s : List ℕ) where
-  pub too_short : length s < 12 → Refused PacketTooShort ≡ start_of s
+  pub too_short : length s < 12 → Err PacketTooShort ≡ start_of s
   unfolding start_of
   too_short h = simp (lt-ltb (length s) 12 h)
 
   module _ (long : 12 ≤ length s) where
-    pub bad_version_lem : (version_of s ≡ 2 → ⊥) → Refused BadVersion ≡ start_of s
+    pub bad_version_lem : (version_of s ≡ 2 → ⊥) → Err BadVersion ≡ start_of s
     unfolding start_of
     bad_version_lem h = simp (le-ltb (length s) 12 long, ne_eqb (version_of s) 2 h)
 
     module _ (version : version_of s ≡ 2) where
-      pub bad_type_lem : (type_of s ≡ 205 → ⊥) → Refused BadType ≡ start_of s
+      pub bad_type_lem : (type_of s ≡ 205 → ⊥) → Err BadType ≡ start_of s
       unfolding start_of
       bad_type_lem h = simp (le-ltb (length s) 12 long, eq-eqb (version_of s) 2 version, ne_eqb (type_of s) 205 h)
 
       module _ (type : type_of s ≡ 205) where
-        pub bad_format : (format_of s ≡ 11 → ⊥) → Refused BadType ≡ start_of s
+        pub bad_format : (format_of s ≡ 11 → ⊥) → Err BadType ≡ start_of s
         unfolding start_of
         bad_format h =
             simp (
@@ -37,7 +37,7 @@ module _ (s : List ℕ) where
             )
 
         module _ (format : format_of s ≡ 11) where
-          pub bad_length_lem : (length_of s ≡ length s → ⊥) → Refused BadLength ≡ start_of s
+          pub bad_length_lem : (length_of s ≡ length s → ⊥) → Err BadLength ≡ start_of s
           unfolding start_of
           bad_length_lem h =
               simp (
@@ -49,7 +49,7 @@ module _ (s : List ℕ) where
               )
 
           module _ (words : length_of s ≡ length s) where
-            pub padded : (padding_of s ≡ 0 → ⊥) → Refused Padded ≡ start_of s
+            pub padded : (padding_of s ≡ 0 → ⊥) → Err Padded ≡ start_of s
             unfolding start_of
             padded h =
                 simp (
@@ -61,7 +61,7 @@ module _ (s : List ℕ) where
                   ne_eqb (padding_of s) 0 h,
                 )
 
-            pub sound : padding_of s ≡ 0 → At (record { at = 8 }) ≡ start_of s
+            pub sound : padding_of s ≡ 0 → Ok (record { at = 8 }) ≡ start_of s
             unfolding start_of
             sound h =
                 simp (
@@ -73,6 +73,9 @@ module _ (s : List ℕ) where
                   eq-eqb (padding_of s) 0 h,
                 )
 
+-- every case
+pub ruleset starts = (too_short, bad_version_lem, bad_type_lem, bad_format, bad_length_lem, padded, sound)
+
 -- all that holds of a sound header
 pub record SoundHeader (s : List ℕ) : Type 0 where
   pub long : 12 ≤ length s
@@ -82,7 +85,7 @@ pub record SoundHeader (s : List ℕ) : Type 0 where
   pub words : length_of s ≡ length s
   pub unpadded : padding_of s ≡ 0
 
-pub sound_header : (s : List ℕ) (c : Cursor) → start_of s ≡ At c → SoundHeader s × (c.at ≡ 8)
+pub sound_header : (s : List ℕ) (c : Cursor) → start_of s ≡ Ok c → SoundHeader s × (c.at ≡ 8)
 sound_header s c e =
     split_le 12 (length s)
     (λ l. split_eq (version_of s) 2

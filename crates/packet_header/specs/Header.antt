@@ -5,13 +5,13 @@
 --   23   another type than 205, or another FMT than 11
 --   24   the length field says another length than that of the octets
 --   25   the padding flag is 1
-use Rattle.std.specs.Prelude.{ℕ, ◌+◌, ◌*◌, ◌/◌, ◌%◌, Bool, cond, not, List, length, get_or, eqb, ltb}
+use Rattle.std.specs.Prelude.{ℕ, ◌+◌, ◌*◌, ◌/◌, ◌%◌, Bool, cond, not, List, length, get_or, eqb, ltb, Result, Ok, Err}
 use Rattle.octets.specs.Octets.{be16}
 use Rattle.packet.specs.Packet.{version, format, packet_type_of, version_unit, padding_unit}
 use Rattle.packet.specs.Sizes.{word_octets, packet_header_octets, packet_frame}
-use Rattle.packet_header.specs.declared.Start.{Start}
+use Rattle.packet_header.specs.declared.Cursor.{Cursor}
+use Rattle.refusal.specs.declared.Refusal.{Refusal}
 use Rattle.refusal.specs.declared.Refusal.TheVariants.{PacketTooShort, BadVersion, BadType, BadLength, Padded}
-use Rattle.packet_header.specs.declared.Start.TheVariants.{At, Refused}
 
 abbrev pub differ : ℕ → ℕ → Bool
 differ a b = not (eqb a b)
@@ -35,12 +35,12 @@ abbrev pub length_of : List ℕ → ℕ
 length_of s = word_octets * (be16 s 2 + 1)
 
 -- refusals 21 to 25; a sound header leads to the first block, at octet 8
-unfoldable pub start_of : List ℕ → Start
+unfoldable pub start_of : List ℕ → Result Cursor Refusal
 start_of s =
-    cond (ltb (length s) packet_frame) (Refused PacketTooShort)
-    (cond (differ (version_of s) version) (Refused BadVersion)
-    (cond (differ (type_of s) packet_type_of) (Refused BadType)
-    (cond (differ (format_of s) format) (Refused BadType)
-    (cond (differ (length_of s) (length s)) (Refused BadLength)
-    (cond (differ (padding_of s) 0) (Refused Padded)
-    (At (record { at = packet_header_octets })))))))
+    cond (ltb (length s) packet_frame) (Err PacketTooShort)
+    (cond (differ (version_of s) version) (Err BadVersion)
+    (cond (differ (type_of s) packet_type_of) (Err BadType)
+    (cond (differ (format_of s) format) (Err BadType)
+    (cond (differ (length_of s) (length s)) (Err BadLength)
+    (cond (differ (padding_of s) 0) (Err Padded)
+    (Ok (record { at = packet_header_octets })))))))

@@ -16,37 +16,31 @@ pub struct Cursor {
     pub at: usize,
 }
 
-// Where a walk over the blocks stands, or the refusal that stopped it.
-#[derive(Clone, Copy)]
-pub enum Start {
-    At(Cursor),
-    Refused(Refusal),
-}
-
 // A cursor at the first block, or the first of the header's refusals, 21 to 25.
-pub fn read_header(packet: &[u8]) -> Start
+#[tactic(auto, using(crate::proofs::Starts::starts))]
+pub fn read_header(packet: &[u8]) -> Result<Cursor, Refusal>
     ensures value { result ≡ start_of packet.now }
 {
     if packet.len() < PACKET_FRAME {
-        return Start::Refused(Refusal::PacketTooShort);
+        return Err(Refusal::PacketTooShort);
     }
     let first = packet[0];
     if first / VERSION_UNIT != VERSION {
-        return Start::Refused(Refusal::BadVersion);
+        return Err(Refusal::BadVersion);
     }
     if packet[1] != PACKET_TYPE {
-        return Start::Refused(Refusal::BadType);
+        return Err(Refusal::BadType);
     }
     if first % PADDING_UNIT != FORMAT {
-        return Start::Refused(Refusal::BadType);
+        return Err(Refusal::BadType);
     }
     if WORD_OCTETS * ((octets::get16(packet, 2) as usize) + 1) != packet.len() {
-        return Start::Refused(Refusal::BadLength);
+        return Err(Refusal::BadLength);
     }
     if first / PADDING_UNIT % 2 != 0 {
-        return Start::Refused(Refusal::Padded);
+        return Err(Refusal::Padded);
     }
-    Start::At(Cursor {
+    Ok(Cursor {
         at: PACKET_HEADER_OCTETS,
     })
 }

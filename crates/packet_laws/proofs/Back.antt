@@ -11,7 +11,7 @@ use Rattle.lists.specs.All.{All}
 use Rattle.lists.proofs.Cases.{split_eq}
 use Rattle.octets.specs.Octets.{be16, be32, octets16, octets32, Octets}
 use Rattle.octets.proofs.Small.{less_16, octet_at, less_32}
-use Rattle.packet.specs.Packet.{Block, encode_metrics, filler, encode_block, encode_blocks, FitBlock}
+use Rattle.packet.specs.Packet.{encode_metrics, filler, encode_block, encode_blocks, FitBlock}
 use Rattle.packet.specs.Sizes.{block_octets}
 use Rattle.packet.proofs.Sizes.{even_octets, odd_octets}
 use Rattle.walk.specs.Walk.{rts_at, filler_at, block_here_of, step_at, walked, walk_from}
@@ -22,7 +22,7 @@ use Rattle.walk.proofs.Walks.{walk_ind}
 use Rattle.reader.specs.Reading.{metrics_at_of, block_in}
 use Rattle.reader.proofs.Answers.{length_metrics_at}
 use Rattle.packet_laws.proofs.Here.{parts_of_block}
-use Rattle.walk.specs.declared.Step.TheVariants as step
+use Rattle.std.specs.Prelude.{Some, Ok}
 
 module _ (s : List ℕ) (octets : Octets s) where
   pub one_back : (i : ℕ) → i < length s → drop i s ≡ get_or s i 0 ∷ drop (i + 1) s
@@ -70,7 +70,7 @@ module _ (s : List ℕ) (octets : Octets s) where
   fit_metrics_at zero i = tt
   fit_metrics_at (suc n) i = (less_16 s octets i, fit_metrics_at n (i + 2))
 
-  module _ (at : ℕ) (b : ReportBlock) (next : Cursor) (e : step_at s at ≡ step.Block b next) where
+  module _ (at : ℕ) (b : ReportBlock) (next : Cursor) (e : step_at s at ≡ Ok (Some (b, next))) where
     back_block : drop at s ≡ encode_block (block_in s b) ++ drop next.at s
     back_block =
         let f = found s at b next e in
@@ -105,7 +105,7 @@ module _ (s : List ℕ) (octets : Octets s) where
     pub are : drop at s ≡ encode_blocks (map (block_in s) bs) ++ drop (rts_at s) s
     pub fit : All FitBlock (map (block_in s) bs)
 
-  more : (at : ℕ) (b : ReportBlock) (next : Cursor) (bs : List ReportBlock) → step_at s at ≡ step.Block b next
+  more : (at : ℕ) (b : ReportBlock) (next : Cursor) (bs : List ReportBlock) → step_at s at ≡ Ok (Some (b, next))
       → BlocksBack next.at bs → BlocksBack at (b ∷ bs)
   unfolding encode_blocks
   more at b next bs e r = record {

@@ -16,9 +16,7 @@ use Rattle.metric_reader.specs.Metrics.{read_metric}
 use Rattle.rewriter.specs.Rewrite.{rewrite_of}
 use Rattle.refusal.specs.declared.Refusal.TheVariants.{OutputTooShort, PacketTooShort, BadVersion, BadType, BadLength, Padded, RunsIntoRts, TooManyReports, FillerNotZero, NoBlock, NoNumber}
 use Rattle.metric.specs.declared.Metric.TheVariants.{NotReceived, Received}
-use Rattle.block_reader.specs.declared.BlockAnswer.TheVariants as answer
-use Rattle.reports.specs.declared.MetricAnswer.TheVariants.{Reported, Refused}
-use Rattle.rewriter.specs.declared.Rewriting.TheVariants as rewriting
+use Rattle.std.specs.Prelude.{Ok, Err}
 
 -- a packet of one block, whose numbers go past 65535
 pub case_p : Packet
@@ -38,15 +36,15 @@ read_p = refl
 
 -- its metrics, numbers 65533 to 0, then no such number, and no such block
 pub metrics_p : map (read_metric octets_p 0) (0 ∷ 1 ∷ 2 ∷ 3 ∷ 4 ∷ [])
-    ≡ Reported 65533 NotReceived ∷ Reported 65534 (Received 2 512) ∷ Reported 65535 NotReceived ∷ Reported 0 (Received 3 0) ∷ Refused NoNumber ∷ []
+    ≡ Ok (record { number = 65533; metric = NotReceived }) ∷ Ok (record { number = 65534; metric = Received 2 512 }) ∷ Ok (record { number = 65535; metric = NotReceived }) ∷ Ok (record { number = 0; metric = Received 3 0 }) ∷ Err NoNumber ∷ []
 unfolding octets_p walk_of start_of walk step_at filler_at be16 be32 metrics_at_of decode_of
 metrics_p = refl
 
-pub no_block_p : read_block octets_p 1 ≡ answer.Refused NoBlock
+pub no_block_p : read_block octets_p 1 ≡ Err NoBlock
 unfolding octets_p walk_of start_of walk step_at filler_at be16 be32
 no_block_p = refl
 
-pub no_room_p : rewrite_of (decode_packet octets_p) [] ≡ output_after (rewriting.Refused OutputTooShort) []
+pub no_room_p : rewrite_of (decode_packet octets_p) [] ≡ output_after (Err OutputTooShort) []
 unfolding octets_p decode_packet walk_of start_of walk step_at filler_at be16 be32 metrics_at_of
 no_room_p = refl
 

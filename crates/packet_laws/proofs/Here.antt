@@ -19,7 +19,7 @@ use Rattle.walk.proofs.Steps.{step_end, step_found}
 use Rattle.walk.proofs.Walks.{walk_block, walk_end}
 use Rattle.reader.specs.Reading.{metrics_at_of, block_in}
 use Rattle.packet_laws.specs.Asked.{laid_block, laid}
-use Rattle.walk.specs.declared.Step.TheVariants as step
+use Rattle.std.specs.Prelude.{Some, None, Ok}
 
 -- a block and what follows it, part by part
 pub parts_of_block : (b : Block) (n : ℕ) (t : List ℕ) → length b.metrics ≡ n
@@ -83,7 +83,7 @@ module _ (s : List ℕ) where
 
   -- the block b stands at an offset, and t behind it
   pub record BlockHere (at : ℕ) (b : Block) (t : List ℕ) : Type 0 where
-    pub found : step.Block (laid_block at b) (record { at = at + block_octets (length b.metrics) }) ≡ step_at s at
+    pub found : Ok (Some ((laid_block at b), (record { at = at + block_octets (length b.metrics) }))) ≡ step_at s at
     pub is : block_in s (laid_block at b) ≡ b
     pub rest : Here (at + block_octets (length b.metrics)) t
 
@@ -115,7 +115,7 @@ module _ (s : List ℕ) where
   pub here_blocks : (at : ℕ) (bs : List Block) (t : List ℕ) → length t ≡ 4 → All FitBlock bs → Here at (encode_blocks bs ++ t) → BlocksHere at bs t
   unfolding encode_blocks laid
   here_blocks at [] t l fit e =
-      record { walks = walk_end s at step.End (step_end s at (omega (arith, length_here at t e))) refl; are = refl; rest = rw add-zero e }
+      record { walks = walk_end s at (Ok None) (step_end s at (omega (arith, length_here at t e))) refl; are = refl; rest = rw add-zero e }
   here_blocks at (b ∷ bs) t l fit e =
       let n = length b.metrics in
       let e₀ : Here at (encode_block b ++ (encode_blocks bs ++ t)) = rw append_assoc at e in

@@ -14,7 +14,7 @@ use Rattle.reader.specs.Reading.{packet, decode_packet}
 use Rattle.reader.proofs.Answers.{start_at}
 use Rattle.packet_laws.specs.Asked.{laid}
 use Rattle.packet_laws.proofs.Here.{length_here, one_here, here_16, here_32, here_blocks}
-use Rattle.packet_header.specs.declared.Start.TheVariants.{At}
+use Rattle.std.specs.Prelude.{Ok}
 
 blocks_words : (bs : List Block) → blocks_octets (report_counts bs) % 4 ≡ 0
 blocks_words [] = refl
@@ -43,7 +43,7 @@ read_from p fit s e =
     let len : length s ≡ packet_octets (report_counts p.blocks) =
     omega (arith, length_here s (8 + blocks_octets (report_counts bs)) _ w.rest) in
     let z : rts_at s ≡ 8 + blocks_octets (report_counts bs) = omega arith in
-    let h : At (record { at = 8 }) ≡ start_of s =
+    let h : Ok (record { at = 8 }) ≡ start_of s =
     sound s (omega arith) (rw e₁.0 refl) e₂.0 (rw e₁.0 refl) (omega (arith, e₃.0, blocks_words bs)) (rw e₁.0 refl) in
     let walks : walk_of s ≡ walked (laid 8 bs) = start_at s _ _ h refl ∙ w.walks in
     (walks, rw (walks, w.are, e₄.0, z, e₅.0))

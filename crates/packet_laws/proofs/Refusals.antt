@@ -19,8 +19,7 @@ use Rattle.walk.specs.Walk.{rts_at, filler_at, block_here_of, step_at}
 use Rattle.walk.specs.Walk.{Walked, walked, stopped, in_front, onward, walk, walk_from, started, walk_of}
 use Rattle.walk.specs.declared.ReportBlock.{ReportBlock}
 use Rattle.packet_header.specs.declared.Cursor.{Cursor}
-use Rattle.packet_header.specs.declared.Start.{Start}
-use Rattle.walk.specs.declared.Step.{Step}
+use Rattle.std.specs.Prelude.{Option, Result, Some, None, Ok, Err}
 use Rattle.packet_header.proofs.Starts.{too_short, bad_version_lem, bad_type_lem, bad_format, bad_length_lem, padded, sound, sound_header}
 use Rattle.walk.proofs.Steps.{step_end, step_no_header, step_many, step_overrun, step_filler, step_found, found, next_at, next_room}
 use Rattle.walk.proofs.Walks.{walk_block, walk_end, walk_refused, walk_ind}
@@ -29,9 +28,7 @@ use Rattle.reader.specs.Reading.{Decoded, packet, refused, block_in, packet_in, 
 use Rattle.reader.proofs.Answers.{walked_sound}
 use Rattle.block_reader.specs.Blocks.{nth, located, read_block}
 use Rattle.metric_reader.specs.Metrics.{metrics_part, reported_of, read_metric}
-use Rattle.block_reader.specs.declared.BlockAnswer.{BlockAnswer}
 use Rattle.rewriter.specs.Rewrite.{rewrite_of}
-use Rattle.rewriter.specs.declared.Rewriting.{Rewriting}
 use Rattle.packet_laws.specs.Asked.{metrics_of, packet_metric}
 use Rattle.packet_laws.specs.Refused.{Long, Version, Typed, Sound, num_reports_of, metrics_end, SoundBlock, Walks, here, past, Fault}
 use Rattle.packet_laws.specs.Refused.{header_room, too_many_of, metrics_room, filler_set, ReadingGiven, BlockGiven, no_block, MetricGiven, no_number, RewritingGiven, OneOf, reader_numbers}
@@ -39,12 +36,6 @@ use Rattle.packet_laws.proofs.Asked.{accepted, accepted_octets, metric_asked_lem
 use Rattle.refusal.specs.declared.Refusal.TheVariants.{OutputTooShort, PacketTooShort, BadVersion, BadType, BadLength, Padded}
 use Rattle.refusal.specs.declared.Refusal.TheVariants.{RunsIntoRts, TooManyReports, FillerNotZero, NoBlock, NoNumber}
 use Rattle.packet.specs.Packet as form
-use Rattle.packet_header.specs.declared.Start.TheVariants as start
-use Rattle.walk.specs.declared.Step.TheVariants.{Block, End, Refused}
-use Rattle.reader.specs.declared.Reading.TheVariants as reading
-use Rattle.block_reader.specs.declared.BlockAnswer.TheVariants as answer
-use Rattle.reports.specs.declared.MetricAnswer.TheVariants as reported
-use Rattle.rewriter.specs.declared.Rewriting.TheVariants as rewriting
 use Rattle.packet_laws.specs.Refused as given
 
 -- blocks and packets are whole words, so the filler has room where the metrics have
@@ -78,13 +69,13 @@ module _ (s : List ℕ) where
       split_eq (n % 2) 1 (λ o. (o, λ z. f (filler_odd at n o ∙ z))) (λ o. absurd (f (filler_zero at n (λ e. absurd (o e)))))
 
   module _ (at : ℕ) (q : rts_at s % 4 ≡ 0) (a : at % 4 ≡ 0) where
-    sound_step : SoundBlock s at → Block (block_here_of s at (num_reports_of s at)) (record { at = at + block_octets (num_reports_of s at) }) ≡ step_at s at
+    sound_step : SoundBlock s at → Ok (Some ((block_here_of s at (num_reports_of s at)), (record { at = at + block_octets (num_reports_of s at) }))) ≡ step_at s at
     sound_step b =
         let n = num_reports_of s at in
         step_found s at n (omega (arith, b.header)) refl b.few
         (omega (arith, b.header, room_words (rts_at s) at n q a b.metrics)) (filler_zero at n b.filler)
 
-    step_sound : (b : ReportBlock) (next : Cursor) → step_at s at ≡ Block b next → SoundBlock s at
+    step_sound : (b : ReportBlock) (next : Cursor) → step_at s at ≡ Ok (Some (b, next)) → SoundBlock s at
     step_sound b next e =
         let f = found s at b next e in
         let n = num_reports_of s at in
@@ -95,7 +86,7 @@ module _ (s : List ℕ) where
           filler = λ o. sym (filler_odd at n o) ∙ f.filler;
         }
 
-    fault_step : (e : Refusal) → Fault s at e → Refused e ≡ step_at s at
+    fault_step : (e : Refusal) → Fault s at e → Err e ≡ step_at s at
     fault_step e (header_room h r) = step_no_header s at h (omega arith)
     fault_step e (too_many_of h m) = step_many s at (num_reports_of s at) (omega arith) refl m
     fault_step e (metrics_room h f m) =
@@ -104,7 +95,7 @@ module _ (s : List ℕ) where
         let n = num_reports_of s at in
         step_filler s at n (omega arith) refl f (omega (arith, room_words (rts_at s) at n q a m)) (λ y. z (sym (filler_odd at n o) ∙ y))
 
-    step_fault : (e : Refusal) → step_at s at ≡ Refused e → Fault s at e
+    step_fault : (e : Refusal) → step_at s at ≡ Err e → Fault s at e
     step_fault e f =
         split_le (rts_at s) at (λ h. let l = step_end s at h in never (cc))
         (λ h. split_le 8 (rts_at s - at) (counting h)
@@ -146,7 +137,7 @@ module _ (s : List ℕ) where
     stopped_walks (suc n) at e a h =
         by_step (step_at s at) refl h (λ g. stopped_walks n (at + block_octets (num_reports_of s at)) e (next_words at (num_reports_of s at) a) g)
       where
-        by_walk : (b : ReportBlock) (next : Cursor) (w : Walked) → step_at s at ≡ Block b next → walk n s next.at ≡ w → in_front b w ≡ stopped e
+        by_walk : (b : ReportBlock) (next : Cursor) (w : Walked) → step_at s at ≡ Ok (Some (b, next)) → walk n s next.at ≡ w → in_front b w ≡ stopped e
             → (walk n s (at + block_octets (num_reports_of s at)) ≡ stopped e → Stop (at + block_octets (num_reports_of s at)) e) → Stop at e
         by_walk b next (walked r) f g h rest = never (cc)
         by_walk b next (stopped x) f g h rest =
@@ -154,15 +145,15 @@ module _ (s : List ℕ) where
             let r = rest (rw (next_at s at b next f) at z) in
             record { to = r.to; reached = past (step_sound at q a b next f) r.reached; fault = r.fault }
 
-        by_step : (c : Step) → step_at s at ≡ c → onward c (λ i. walk n s i) ≡ stopped e
+        by_step : (c : Result (Option (ReportBlock × Cursor)) Refusal) → step_at s at ≡ c → onward c (λ i. walk n s i) ≡ stopped e
             → (walk n s (at + block_octets (num_reports_of s at)) ≡ stopped e → Stop (at + block_octets (num_reports_of s at)) e) → Stop at e
-        by_step (Block b next) f h rest = by_walk b next (walk n s next.at) f refl h rest
-        by_step End f h rest = never (cc)
-        by_step (Refused x) f h rest = let z : x ≡ e = cc in record { to = at; reached = here; fault = step_fault at q a e (f ∙ ap Refused z) }
+        by_step (Ok (Some (b, next))) f h rest = by_walk b next (walk n s next.at) f refl h rest
+        by_step (Ok None) f h rest = never (cc)
+        by_step (Err x) f h rest = let z : x ≡ e = cc in record { to = at; reached = here; fault = step_fault at q a e (f ∙ ap Err z) }
 
   -- ---- the reader
 
-  start_given : (e : Refusal) → start_of s ≡ start.Refused e → ReadingGiven s e
+  start_given : (e : Refusal) → start_of s ≡ Err e → ReadingGiven s e
   start_given e h =
       split_le 12 (length s)
       (λ l. split_eq (version_of s) 2
@@ -182,12 +173,12 @@ module _ (s : List ℕ) where
   unfolding walk_of
   walk_given e h = by_start (start_of s) refl h
     where
-      by_start : (d : Start) → start_of s ≡ d → started d s ≡ stopped e → ReadingGiven s e
-      by_start (start.At c) g h =
+      by_start : (d : Result Cursor Refusal) → start_of s ≡ d → started d s ≡ stopped e → ReadingGiven s e
+      by_start (Ok c) g h =
           let k = sound_header s c g in
           let r = stopped_walks (rts_words (be16 s 2) (length s) k.0.words) (length s) 8 e refl (rw k.1 at h) in
           given.in_block r.to (k.0.long, k.0.version, (k.0.type, k.0.format), k.0.words, k.0.unpadded) r.reached r.fault
-      by_start (start.Refused x) g h = let z : x ≡ e = cc in start_given e (g ∙ ap start.Refused z)
+      by_start (Err x) g h = let z : x ≡ e = cc in start_given e (g ∙ ap Err z)
 
   -- a refusal is given only if its condition holds, and none before it
   pub refused_given : (e : Refusal) → decode_packet s ≡ refused e → ReadingGiven s e
@@ -198,7 +189,7 @@ module _ (s : List ℕ) where
       by_walk (walked bs) f h = never (cc)
       by_walk (stopped x) f h = let z : x ≡ e = cc in walk_given e (f ∙ ap stopped z)
 
-  start_stopped : (e : Refusal) → start.Refused e ≡ start_of s → walk_of s ≡ stopped e
+  start_stopped : (e : Refusal) → Err e ≡ start_of s → walk_of s ≡ stopped e
   unfolding walk_of
   start_stopped e h = rw (← h)
 
@@ -206,7 +197,7 @@ module _ (s : List ℕ) where
   unfolding walk_of
   sound_walk h = rw (← sound s h.0 h.1 h.2.0 h.2.1 h.3 h.4)
 
-  type_refused : Long s → Version s → (Typed s → ⊥) → start.Refused BadType ≡ start_of s
+  type_refused : Long s → Version s → (Typed s → ⊥) → Err BadType ≡ start_of s
   type_refused l v t = split_eq (type_of s) 205 (λ e. bad_format s l v e (λ f. t (e, f))) (bad_type_lem s l v)
 
   pub given_stopped : (e : Refusal) → ReadingGiven s e → walk_of s ≡ stopped e
@@ -237,14 +228,14 @@ module _ (s : List ℕ) where
   reader_numbers_lem e (given.padded l v t w u) = inr (inr (inr (inr (inl refl))))
   reader_numbers_lem e (given.in_block at h w f) = fault_numbers at e f
 
-  pub read_refused_given : (e : Refusal) → read_of (decode_packet s) ≡ reading.Refused e → ReadingGiven s e
+  pub read_refused_given : (e : Refusal) → read_of (decode_packet s) ≡ Err e → ReadingGiven s e
   read_refused_given e h = by_decoded (decode_packet s) refl h
     where
-      by_decoded : (d : Decoded) → decode_packet s ≡ d → read_of d ≡ reading.Refused e → ReadingGiven s e
+      by_decoded : (d : Decoded) → decode_packet s ≡ d → read_of d ≡ Err e → ReadingGiven s e
       by_decoded (packet p) f h = never (cc)
       by_decoded (refused x) f h = let z : x ≡ e = cc in refused_given e (f ∙ ap refused z)
 
-  pub read_given_refused : (e : Refusal) → ReadingGiven s e → read_of (decode_packet s) ≡ reading.Refused e
+  pub read_given_refused : (e : Refusal) → ReadingGiven s e → read_of (decode_packet s) ≡ Err e
   read_given_refused e g = rw (given_refused e g)
 
   -- ---- a packet is accepted exactly if its header is sound and sound blocks fill the room up to RTS
@@ -279,12 +270,12 @@ module _ (s : List ℕ) where
 
   -- ---- block k
 
-  nth_none : (bs : List ReportBlock) (k : ℕ) (e : Refusal) → nth bs k ≡ answer.Refused e → (NoBlock ≡ e) × (length bs ≤ k)
+  nth_none : (bs : List ReportBlock) (k : ℕ) (e : Refusal) → nth bs k ≡ Err e → (NoBlock ≡ e) × (length bs ≤ k)
   nth_none [] k e h = (cc, omega arith)
   nth_none (b ∷ bs) zero e h = never (cc)
   nth_none (b ∷ bs) (suc k) e h = let r = nth_none bs k e h in (r.0, omega (arith, r.1))
 
-  nth_past : (bs : List ReportBlock) (k : ℕ) → length bs ≤ k → nth bs k ≡ answer.Refused NoBlock
+  nth_past : (bs : List ReportBlock) (k : ℕ) → length bs ≤ k → nth bs k ≡ Err NoBlock
   nth_past [] k l = refl
   nth_past (b ∷ bs) zero l = absurd (omega arith)
   nth_past (b ∷ bs) (suc k) l = nth_past bs k (omega arith)
@@ -293,16 +284,16 @@ module _ (s : List ℕ) where
   unfolding decode_packet
   walked_read bs f = rw f
 
-  pub block_refused_given : (k : ℕ) (e : Refusal) → read_block s k ≡ answer.Refused e → BlockGiven s k e
+  pub block_refused_given : (k : ℕ) (e : Refusal) → read_block s k ≡ Err e → BlockGiven s k e
   block_refused_given k e h = by_walk (walk_of s) refl h
     where
-      by_walk : (w : Walked) → walk_of s ≡ w → located w k ≡ answer.Refused e → BlockGiven s k e
+      by_walk : (w : Walked) → walk_of s ≡ w → located w k ≡ Err e → BlockGiven s k e
       by_walk (walked bs) f h =
           let r = nth_none bs k e h in
           subst (BlockGiven s k) r.0 (no_block (packet_in s bs) (walked_read bs f) (omega (arith, r.1, length-map bs (block_in s))))
       by_walk (stopped x) f h = let z : x ≡ e = cc in given.BlockGiven.reader (walk_given e (f ∙ ap stopped z))
 
-  pub block_given_refused : (k : ℕ) (e : Refusal) → BlockGiven s k e → read_block s k ≡ answer.Refused e
+  pub block_given_refused : (k : ℕ) (e : Refusal) → BlockGiven s k e → read_block s k ≡ Err e
   block_given_refused k e (given.BlockGiven.reader g) = rw (given_stopped e g)
   block_given_refused k e (no_block p d l) =
       accepted s p d (λ bs f z.
@@ -315,12 +306,12 @@ module _ (s : List ℕ) where
 
   -- ---- metric j of block k
 
-  metric_past : (bs : List form.Block) (k j : ℕ) → k < length bs → length (metrics_of bs k) ≤ j → packet_metric bs k j ≡ reported.Refused NoNumber
+  metric_past : (bs : List form.Block) (k j : ℕ) → k < length bs → length (metrics_of bs k) ≤ j → packet_metric bs k j ≡ Err NoNumber
   metric_past [] k j l m = absurd (omega arith)
   metric_past (b ∷ bs) zero j l m = simp (le-leb (length b.metrics) j m)
   metric_past (b ∷ bs) (suc k) j l m = metric_past bs k j (omega arith) m
 
-  metric_none : (bs : List form.Block) (k j : ℕ) (e : Refusal) → k < length bs → packet_metric bs k j ≡ reported.Refused e
+  metric_none : (bs : List form.Block) (k j : ℕ) (e : Refusal) → k < length bs → packet_metric bs k j ≡ Err e
       → (NoNumber ≡ e) × (length (metrics_of bs k) ≤ j)
   metric_none [] k j e l h = absurd (omega arith)
   metric_none (b ∷ bs) zero j e l h =
@@ -329,33 +320,33 @@ module _ (s : List ℕ) where
       (λ m. let z = simp (lt-leb (length b.metrics) j m) at h in never (cc))
   metric_none (b ∷ bs) (suc k) j e l h = metric_none bs k j e (omega arith) h
 
-  pub metric_refused_given : (k j : ℕ) (e : Refusal) → read_metric s k j ≡ reported.Refused e → MetricGiven s k j e
+  pub metric_refused_given : (k j : ℕ) (e : Refusal) → read_metric s k j ≡ Err e → MetricGiven s k j e
   metric_refused_given k j e h = by_block (read_block s k) refl h
     where
-      found_walked : (b : ReportBlock) (w : Walked) → walk_of s ≡ w → located w k ≡ answer.Found b → reported_in b s j ≡ reported.Refused e → MetricGiven s k j e
+      found_walked : (b : ReportBlock) (w : Walked) → walk_of s ≡ w → located w k ≡ Ok b → reported_in b s j ≡ Err e → MetricGiven s k j e
       found_walked b (walked bs) f g h =
           let p = packet_in s bs in
           split_le (length bs) k
           (λ l. let x = nth_past bs k l in never (cc))
-          (λ l. let m : packet_metric p.blocks k j ≡ reported.Refused e = sym (metric_asked_lem s p (walked_read bs f) k j) ∙ rw (f, g) h in
+          (λ l. let m : packet_metric p.blocks k j ≡ Err e = sym (metric_asked_lem s p (walked_read bs f) k j) ∙ rw (f, g) h in
           let r = metric_none p.blocks k j e (omega (arith, length-map bs (block_in s))) m in
           subst (MetricGiven s k j) r.0 (no_number p (walked_read bs f) (omega (arith, length-map bs (block_in s))) r.1))
       found_walked b (stopped x) f g h = never (cc)
 
-      by_block : (a : BlockAnswer) → read_block s k ≡ a → reported_of a s j ≡ reported.Refused e → MetricGiven s k j e
-      by_block (answer.Found b) g h = found_walked b (walk_of s) refl g h
-      by_block (answer.Refused x) g h = let z : x ≡ e = cc in given.block (block_refused_given k e (g ∙ ap answer.Refused z))
+      by_block : (a : Result ReportBlock Refusal) → read_block s k ≡ a → reported_of a s j ≡ Err e → MetricGiven s k j e
+      by_block (Ok b) g h = found_walked b (walk_of s) refl g h
+      by_block (Err x) g h = let z : x ≡ e = cc in given.block (block_refused_given k e (g ∙ ap Err z))
 
-  pub metric_given_refused : (k j : ℕ) (e : Refusal) → MetricGiven s k j e → read_metric s k j ≡ reported.Refused e
+  pub metric_given_refused : (k j : ℕ) (e : Refusal) → MetricGiven s k j e → read_metric s k j ≡ Err e
   metric_given_refused k j e (given.block g) = rw (block_given_refused k e g)
   metric_given_refused k j e (no_number p d l m) = metric_asked_lem s p d k j ∙ metric_past p.blocks k j l m
 
   -- ---- the rewriter
 
-  pub rewrite_refused_given : (out : List ℕ) (e : Refusal) → (rewrite_of (decode_packet s) out).answer ≡ rewriting.Refused e → RewritingGiven s out e
+  pub rewrite_refused_given : (out : List ℕ) (e : Refusal) → (rewrite_of (decode_packet s) out).answer ≡ Err e → RewritingGiven s out e
   rewrite_refused_given out e h = by_decoded (decode_packet s) refl h
     where
-      by_decoded : (d : Decoded) → decode_packet s ≡ d → (rewrite_of d out).answer ≡ rewriting.Refused e → RewritingGiven s out e
+      by_decoded : (d : Decoded) → decode_packet s ≡ d → (rewrite_of d out).answer ≡ Err e → RewritingGiven s out e
       by_decoded (refused x) f h = let z : x ≡ e = cc in given.RewritingGiven.reader (refused_given e (f ∙ ap refused z))
       by_decoded (packet p) f h =
           let z = rw (accepted_octets s p f) at h in
@@ -365,10 +356,10 @@ module _ (s : List ℕ) where
           let x : OutputTooShort ≡ e = cc in
           subst (RewritingGiven s out) x (given.RewritingGiven.too_short_of p f l))
 
-  pub rewrite_given_refused : (out : List ℕ) (e : Refusal) → RewritingGiven s out e → rewrite_of (decode_packet s) out ≡ output_after (rewriting.Refused e) out
+  pub rewrite_given_refused : (out : List ℕ) (e : Refusal) → RewritingGiven s out e → rewrite_of (decode_packet s) out ≡ output_after (Err e) out
   rewrite_given_refused out e (given.RewritingGiven.reader g) = rw (given_refused e g)
   rewrite_given_refused out e (given.RewritingGiven.too_short_of p d l) = rw (d, accepted_octets s p d) (simp (lt-ltb (length out) (length s) l))
 
   -- a refused call changes nothing
-  pub rewrite_refused_stays : (out : List ℕ) (e : Refusal) → (rewrite_of (decode_packet s) out).answer ≡ rewriting.Refused e → (rewrite_of (decode_packet s) out).output ≡ out
-  rewrite_refused_stays out e h = ap (λ (x : OutputAfter Rewriting). x.output) (rewrite_given_refused out e (rewrite_refused_given out e h))
+  pub rewrite_refused_stays : (out : List ℕ) (e : Refusal) → (rewrite_of (decode_packet s) out).answer ≡ Err e → (rewrite_of (decode_packet s) out).output ≡ out
+  rewrite_refused_stays out e h = ap (λ (x : OutputAfter (Result ℕ Refusal)). x.output) (rewrite_given_refused out e (rewrite_refused_given out e h))

@@ -20,7 +20,8 @@ use Rattle.walk.specs.Walk.{walked, walk_of}
 use Rattle.reader.specs.Reading.{Decoded, packet, refused, decode_packet}
 use Rattle.metric_rewriter.specs.Metrics.{rewrite_metric}
 use Rattle.rewriter.specs.Rewrite.{rewrite_block, rewrite_packet, Clean, rewrite_of}
-use Rattle.rewriter.specs.declared.Rewriting.{Rewriting}
+use Rattle.std.specs.Prelude.{Result, Ok, Err}
+use Rattle.refusal.specs.declared.Refusal.{Refusal}
 use Rattle.rewriter.proofs.Output.{rewrite_octets}
 use Rattle.packet_laws.specs.Asked.{laid, packet_metric}
 use Rattle.packet_laws.specs.Rewritten.{SameAnswers, Rewritten}
@@ -28,7 +29,6 @@ use Rattle.packet_laws.proofs.ReadBack.{read_back, walk_back, encode_different}
 use Rattle.packet_laws.proofs.WrittenBack.{written_back}
 use Rattle.packet_laws.proofs.Asked.{accepted_octets, metric_asked_lem}
 use Rattle.refusal.specs.declared.Refusal.TheVariants.{OutputTooShort}
-use Rattle.rewriter.specs.declared.Rewriting.TheVariants.{Written, Refused}
 
 module _ {A : Type 0} (f : A → A) where
   map_twice : ((a : A) → f (f a) ≡ f a) → (l : List A) → map f (map f l) ≡ map f l
@@ -155,7 +155,7 @@ module _ (s : List ℕ) (octets : Octets s) where
 
   -- ---- a call that wrote n octets
 
-  module _ (entry exit : List ℕ) (n : ℕ) (call : rewrite_of (decode_packet s) entry ≡ output_after (Written n) exit) where
+  module _ (entry exit : List ℕ) (n : ℕ) (call : rewrite_of (decode_packet s) entry ≡ output_after (Ok n) exit) where
     -- what it wrote
     record Output (p : Packet) : Type 0 where
       is : decode_packet s ≡ packet p
@@ -166,14 +166,14 @@ module _ (s : List ℕ) (octets : Octets s) where
 
     output_of : (p : Packet) → decode_packet s ≡ packet p → Output p
     output_of p e =
-        let z : rewrite_of (packet p) entry ≡ output_after (Written n) exit = rw e at call in
+        let z : rewrite_of (packet p) entry ≡ output_after (Ok n) exit = rw e at call in
         let y = rw (accepted_octets s p e) at z in
         split_le (length s) (length entry)
-        (λ l. let x : output_after (Written (length s)) (sets entry 0 (written p e)) ≡ output_after (Written n) exit =
+        (λ l. let x : output_after (Ok (length s)) (sets entry 0 (written p e)) ≡ output_after (Ok n) exit =
         simp (le-ltb (length entry) (length s) l) at y in
-        let wrote : Written (length s) ≡ Written n = ap (λ (o : OutputAfter Rewriting). o.answer) x in
+        let wrote : Ok (length s) ≡ Ok n = ap (λ (o : OutputAfter (Result ℕ Refusal)). o.answer) x in
         let size : length s ≡ n = cc in
-        let content : sets entry 0 (written p e) ≡ exit = ap (λ (o : OutputAfter Rewriting). o.output) x in
+        let content : sets entry 0 (written p e) ≡ exit = ap (λ (o : OutputAfter (Result ℕ Refusal)). o.output) x in
         let lw : length (written p e) ≡ n = output_length p e ∙ size in
         let all : sets entry 0 (written p e) ≡ written p e ++ drop (0 + length (written p e)) entry =
         sets-eq (written p e) entry 0 (omega (arith, output_length p e)) in
@@ -185,15 +185,15 @@ module _ (s : List ℕ) (octets : Octets s) where
           others = rw parts (drop_at (written p e) (drop n entry) n lw);
           long = ap length (sym content) ∙ length-sets entry 0 (written p e);
         })
-        (λ l. let x : Refused OutputTooShort ≡ Written n = ap (λ (o : OutputAfter Rewriting). o.answer) (simp (lt-ltb (length entry) (length s) l) at y) in
+        (λ l. let x : Err OutputTooShort ≡ Ok n = ap (λ (o : OutputAfter (Result ℕ Refusal)). o.answer) (simp (lt-ltb (length entry) (length s) l) at y) in
         never (cc))
 
     output : {P : Type 0} → ((p : Packet) → Output p → P) → P
     output {P} then = by_decoded (decode_packet s) refl call
       where
-        by_decoded : (d : Decoded) → decode_packet s ≡ d → rewrite_of d entry ≡ output_after (Written n) exit → P
+        by_decoded : (d : Decoded) → decode_packet s ≡ d → rewrite_of d entry ≡ output_after (Ok n) exit → P
         by_decoded (packet p) e c = then p (output_of p e)
-        by_decoded (refused x) e c = let z : Refused x ≡ Written n = ap (λ (o : OutputAfter Rewriting). o.answer) c in never (cc)
+        by_decoded (refused x) e c = let z : Err x ≡ Ok n = ap (λ (o : OutputAfter (Result ℕ Refusal)). o.answer) c in never (cc)
 
     -- the same is read in what was written, and octets past it stay
     pub rewritten : Rewritten s entry exit n
@@ -209,7 +209,7 @@ module _ (s : List ℕ) (octets : Octets s) where
     equal_rewrite p e h = equal_output p e (sym (output_of p e).first ∙ h)
 
     -- a second pass changes nothing more: rewriting what was written writes just that
-    pub twice_once : (again : List ℕ) → n ≤ length again → rewrite_of (decode_packet (take n exit)) again ≡ output_after (Written n) (sets again 0 (take n exit))
+    pub twice_once : (again : List ℕ) → n ≤ length again → rewrite_of (decode_packet (take n exit)) again ≡ output_after (Ok n) (sets again 0 (take n exit))
     twice_once again room =
         output (λ p o.
         let size : packet_octets (report_counts (rewrite_packet p).blocks) ≡ n = rewrite_octets p ∙ accepted_octets s p o.is ∙ sym o.size in

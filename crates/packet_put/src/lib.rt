@@ -12,6 +12,7 @@ use packet::{SENDER_AT, WORD_OCTETS};
 const FIRST_BITS: u16 = 0x8BCD;
 
 // Writes the header of a packet of so many octets.
+#[tactic(auto, using(octets::proofs::Sets::sets_twice))]
 pub fn put_header(out: &mut [u8], size: usize, sender: u32)
     requires room { packet_header_octets ≤ length out.old }
     requires some { 4 ≤ size }

@@ -4,7 +4,7 @@ use mathlib.Core.List.{List, [], ◌∷◌, ◌++◌, map}
 use Prim.Native.Nat.{ℕ, ◌+◌, ◌-◌, ◌≤◌, ◌<◌}
 use native.Mathlib.Omega.{arith}
 use native.Mathlib.Nat.{add-zero}
-use lib.ListN.{length, take, drop}
+use lib.ListN.{length, drop}
 use lib.Seq.{sets}
 use borrow.Rule.Slice.PartMut.{mid_of, put_mid}
 use Rattle.octets.specs.Octets.{octets32}
@@ -54,28 +54,28 @@ module _ (metric : ℕ → ℕ → ℕ) (rs : List Request) where
 
 -- ---- the plan that starts at a position
 
-module _ (rs : List Request) (n : ℕ) (fits : n ≤ length rs) (limit : ℕ) (enough : least_limit ≤ limit) where
+module _ (rs : List Request) (limit : ℕ) (enough : least_limit ≤ limit) where
   abbrev pub plan_at : Position → Cutting
-  plan_at p = plan_from limit (remaining (take n rs) p)
+  plan_at p = plan_from limit (remaining rs p)
 
-  pub plan_start : plan_at (record { request = 0; reported = 0 }) ≡ plan limit (take n rs)
-  plan_start = ap (plan_from limit) (remaining_next rs n fits 0)
+  pub plan_start : plan_at (record { request = 0; reported = 0 }) ≡ plan limit rs
+  plan_start = ap (plan_from limit) (remaining_next rs 0)
 
   -- a packet, and the others
-  pub plan_on : (p : Position) (w : List CutBlock) → p.request < n → w ≡ (next_packet limit (take n rs) p).rest
-      → plan_at p ≡ (next_packet limit (take n rs) p).packet ∷ plan_from limit w
+  pub plan_on : (p : Position) (w : List CutBlock) → p.request < length rs → w ≡ (next_packet limit rs p).rest
+      → plan_at p ≡ (next_packet limit rs p).packet ∷ plan_from limit w
   plan_on p w h e =
-      rw (e, remaining_at rs n fits p.request p.reported h)
-      (plan_step limit (range_at_lem rs p.request p.reported) (whole_blocks (p.request + 1) (drop (p.request + 1) (take n rs))) enough)
+      rw (e, remaining_at rs p.request p.reported h)
+      (plan_step limit (range_at_lem rs p.request p.reported) (whole_blocks (p.request + 1) (drop (p.request + 1) rs)) enough)
 
-  pub plan_less : (p : Position) (w : List CutBlock) → p.request < n → w ≡ (next_packet limit (take n rs) p).rest
-      → most_packets w < most_packets (remaining (take n rs) p)
+  pub plan_less : (p : Position) (w : List CutBlock) → p.request < length rs → w ≡ (next_packet limit rs p).rest
+      → most_packets w < most_packets (remaining rs p)
   plan_less p w h e =
-      rw (e, remaining_at rs n fits p.request p.reported h)
-      (filled_less (limit - 12) (range_at_lem rs p.request p.reported) (whole_blocks (p.request + 1) (drop (p.request + 1) (take n rs))) (omega arith))
+      rw (e, remaining_at rs p.request p.reported h)
+      (filled_less (limit - 12) (range_at_lem rs p.request p.reported) (whole_blocks (p.request + 1) (drop (p.request + 1) rs)) (omega arith))
 
-  pub plan_over : (p : Position) → n ≤ p.request → plan_at p ≡ []
-  plan_over p h = rw (remaining_past rs n fits p.request p.reported h) (plan_none limit)
+  pub plan_over : (p : Position) → length rs ≤ p.request → plan_at p ≡ []
+  plan_over p h = rw (remaining_past rs p.request p.reported h) (plan_none limit)
 
 -- ---- packets back to back
 

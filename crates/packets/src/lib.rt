@@ -1,82 +1,48 @@
 // Writes the packets of a report back to back.
 #![tactic(auto)]
 
-ghost use Rattle.std.specs.Prelude.{◌≡◌, map, ◌≤◌, length, take};
+ghost use Rattle.std.specs.Prelude.{◌≡◌, ◌≤◌, length};
 ghost use Rattle.std.proofs.lemmas.List.Edits.{sets};
 ghost use Rattle.packet.specs.Sizes.{packet_octets};
 ghost use Rattle.cutting.specs.Cutting.{counts};
 ghost use Rattle.cutting.specs.Plan.{plan, total_octets};
-ghost use Rattle.blocks.specs.Packets.{report_packet, encode_packets};
-ghost use Rattle.blocks.specs.Steps.{InRange, next_packet, metric_found, Prepared, PutPacket};
+ghost use Rattle.blocks.specs.Packets.{encode_packets};
+ghost use Rattle.blocks.specs.Steps.{InRange, packet_from, packets_in, metric_in, Prepared, PutPacket};
 
-use blocks::{Position, Progress};
-use cutting::{MOST_REQUESTS, Request};
+use blocks::{Position, Progress, Report};
 use packet::RTS_OCTETS;
 
 // Writes the packet that starts at a position to the front of `out`: its blocks, RTS behind them, and the header.
-fn write_packet(
-    out: &mut [u8],
-    limit: usize,
-    cells: &[u64],
-    sender: u32,
-    rts: u32,
-    requests: [Request; MOST_REQUESTS],
-    found: &[usize; MOST_REQUESTS],
-    n: usize,
-    from: Position,
-) -> Progress
-    requires prepared { Prepared limit n cells.now found.now }
-    requires range { InRange (take n requests) from }
-    requires room { packet_octets (counts (next_packet limit (take n requests) from).packet) ≤ length out.old }
-    ensures after { PutPacket (metric_found cells.now rts found.now) (take n requests) sender rts
-        (next_packet limit (take n requests) from) out.old out.new result }
+fn write_packet(out: &mut [u8], report: &Report<'_>, from: Position) -> Progress
+    requires prepared { Prepared report.now }
+    requires range { InRange report.now.requests.now from }
+    requires room { packet_octets (counts (packet_from report.now from).packet) ≤ length out.old }
+    ensures after { PutPacket (metric_in report.now) report.now.requests.now report.now.sender report.now.rts
+        (packet_from report.now from) out.old out.new result }
 {
-    let b = blocks::put_blocks(out, limit, cells, rts, requests, found, n, from);
+    let b = blocks::put_blocks(out, report, from);
     let end = b.octets;
-    let rest = b.rest;
-    octets_put::put32(out, end, rts);
-    packet_put::put_header(out, end + RTS_OCTETS, sender);
+    octets_put::put32(out, end, report.rts);
+    packet_put::put_header(out, end + RTS_OCTETS, report.sender);
     Progress {
-        rest: rest,
+        rest: b.rest,
         octets: end + RTS_OCTETS,
     }
 }
 
 // Writes all packets, back to back: each is lent only what is left of the output.
-pub fn write_packets(
-    out: &mut [u8],
-    limit: usize,
-    cells: &[u64],
-    sender: u32,
-    rts: u32,
-    requests: [Request; MOST_REQUESTS],
-    found: &[usize; MOST_REQUESTS],
-    n: usize,
-)
-    requires prepared { Prepared limit n cells.now found.now }
-    requires room { total_octets (plan limit (take n requests)) ≤ length out.old }
-    ensures content { out.new
-        ≡ sets out.old 0 (encode_packets (map
-        (report_packet (metric_found cells.now rts found.now) (take n requests) sender rts)
-        (plan limit (take n requests)))) }
+pub fn write_packets(out: &mut [u8], report: &Report<'_>)
+    requires prepared { Prepared report.now }
+    requires room { total_octets (plan report.now.limit report.now.requests.now) ≤ length out.old }
+    ensures content { out.new ≡ sets out.old 0 (encode_packets (packets_in report.now)) }
 {
     let mut from = Position {
         request: 0,
         reported: 0,
     };
     let mut end = 0;
-    while from.request < n {
-        let p = write_packet(
-            &mut out[end..],
-            limit,
-            cells,
-            sender,
-            rts,
-            requests,
-            found,
-            n,
-            from,
-        );
+    while from.request < report.requests.len() {
+        let p = write_packet(&mut out[end..], report, from);
         from = p.rest;
         end += p.octets;
     }

@@ -5,7 +5,7 @@ use mathlib.Core.Path.{◌≡◌, refl, sym}
 use mathlib.Core.List.{List}
 use native.Mathlib.Omega.{arith}
 use native.Mathlib.Decide.{dec_le, dec_lt}
-use Rattle.lists.specs.declared.Found.{Found}
+use Rattle.std.specs.Prelude.{Option, Some, None}
 use Rattle.refusal.specs.declared.Refusal.{Refusal}
 use Rattle.ring.specs.Ring.{cells_of_a_place}
 use Rattle.window.specs.Number.{distance_of, move_of, farthest_ahead}
@@ -18,7 +18,6 @@ use Rattle.places.proofs.Held.{found_held, held_found, unheld_lost, lost_unheld,
 use Rattle.place_window.specs.Window.{moved, moved_by_of, continued, started_at, admitted_at}
 use Rattle.place_window.specs.Given.{Old, AdmissionGiven}
 use Rattle.place_window.proofs.Moving.{continued_by}
-use Rattle.lists.specs.declared.Found.TheVariants.{At, Nothing}
 use Rattle.window.specs.declared.Move.TheVariants as move
 
 -- ---- how a number moves a window
@@ -68,9 +67,9 @@ module _ {A : Type 0} (accepted : A) (refused : Refusal → A) (f : ℕ → ℕ)
   unfolding moved
   new_answer k v = by_search (free_of places) refl
     where
-      by_search : (g : Found) → free_of places ≡ g → accepted ≡ (started_at accepted refused f g places cells ssrc number).answer
-      by_search (At j) e = refl
-      by_search Nothing e = absurd (full_none places e k v)
+      by_search : (g : Option ℕ) → free_of places ≡ g → accepted ≡ (started_at accepted refused f g places cells ssrc number).answer
+      by_search (Some j) e = refl
+      by_search None e = absurd (full_none places e k v)
 
   -- no other answer is given for a reason of the rules
   pub admission_only : (o : StoreAfter A) → AdmissionGiven accepted refused places cells ssrc number o
@@ -82,7 +81,7 @@ module _ {A : Type 0} (accepted : A) (refused : Refusal → A) (f : ℕ → ℕ)
   admission_only o (AdmissionGiven.later p high K n a b) = rw (held_found places ssrc p high K).0 (known_answer p high K n)
   admission_only o (AdmissionGiven.first n k v a b) = rw (unheld_lost places ssrc n) (new_answer k v)
 
-  known_given : (p : ℕ) → find_of places ssrc ≡ At p → Moved (highest_at places p) number
+  known_given : (p : ℕ) → find_of places ssrc ≡ Some p → Moved (highest_at places p) number
       → Given (continued accepted refused f places cells p ssrc number)
   unfolding moved
   known_given p g (ahead e n) =
@@ -93,19 +92,19 @@ module _ {A : Type 0} (accepted : A) (refused : Refusal → A) (f : ℕ → ℕ)
       (AdmissionGiven.later p (highest_at places p) (found_held places ssrc p g) n _ _)
   known_given p g (old e o) = rw (by p move.TooOld e) (AdmissionGiven.too_old p (highest_at places p) (found_held places ssrc p g) o)
 
-  new_given : (k : Found) → free_of places ≡ k → find_of places ssrc ≡ Nothing → Given (started_at accepted refused f k places cells ssrc number)
+  new_given : (k : Option ℕ) → free_of places ≡ k → find_of places ssrc ≡ None → Given (started_at accepted refused f k places cells ssrc number)
   unfolding moved
-  new_given (At k) v g = AdmissionGiven.first (lost_unheld places ssrc g) k (found_vacant places k v) _ _
-  new_given Nothing v g = AdmissionGiven.no_free_place (lost_unheld places ssrc g) (full_none places v)
+  new_given (Some k) v g = AdmissionGiven.first (lost_unheld places ssrc g) k (found_vacant places k v) _ _
+  new_given None v g = AdmissionGiven.no_free_place (lost_unheld places ssrc g) (full_none places v)
 
   -- the answer is given for the reason that the rules name
   pub admission_given : AdmissionGiven accepted refused places cells ssrc number
       (admitted_at accepted refused f (find_of places ssrc) places cells ssrc number)
   admission_given = by_search (find_of places ssrc) refl
     where
-      by_search : (g : Found) → find_of places ssrc ≡ g → Given (admitted_at accepted refused f g places cells ssrc number)
-      by_search (At p) e = known_given p e (moved_by (highest_at places p) number)
-      by_search Nothing e = new_given (free_of places) refl e
+      by_search : (g : Option ℕ) → find_of places ssrc ≡ g → Given (admitted_at accepted refused f g places cells ssrc number)
+      by_search (Some p) e = known_given p e (moved_by (highest_at places p) number)
+      by_search None e = new_given (free_of places) refl e
 
 -- a refused number changes nothing
 module _ {A : Type 0} (accepted : A) (refused : Refusal → A) (apart : (e : Refusal) → accepted ≡ refused e → ⊥)

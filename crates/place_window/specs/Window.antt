@@ -1,15 +1,13 @@
 -- Rules: "Arrivals and the window", "Store words". Where a number's cell stands, and how a call on
 -- a number moves its stream's window. All of it is over f, what becomes of the word of the number's
 -- own cell, and over the answer that a call gives.
-use Rattle.std.specs.Prelude.{ℕ, ◌+◌, ◌-◌, ◌*◌, min, List, get_or, set}
-use Rattle.lists.specs.declared.Found.{Found}
+use Rattle.std.specs.Prelude.{ℕ, ◌+◌, ◌-◌, ◌*◌, min, List, get_or, set, Option, Some, None}
 use Rattle.refusal.specs.declared.Refusal.{Refusal}
 use Rattle.window.specs.Number.{move_of}
 use Rattle.ring.specs.Ring.{cells_of_a_place, slot, emptied}
 use Rattle.window.specs.declared.Move.{Move}
 use Rattle.places.specs.Place.{place_word, highest_at, free_of}
 use Rattle.places.specs.After.{StoreAfter, store_after}
-use Rattle.lists.specs.declared.Found.TheVariants.{At, Nothing}
 use Rattle.refusal.specs.declared.Refusal.TheVariants.{NoFreePlace, TooOld}
 use Rattle.window.specs.declared.Move.TheVariants as move
 
@@ -50,11 +48,11 @@ module _ {A : Type 0} (accepted : A) (refused : Refusal → A) (f : ℕ → ℕ)
 
   -- rule "New stream": a number of a stream that no place holds takes the lowest free place and
   -- empties its cells
-  abbrev pub started_at : Found → List ℕ → List ℕ → ℕ → ℕ → StoreAfter A
-  started_at (At p) places cells ssrc number = moved places cells p ssrc number cells_of_a_place
-  started_at Nothing places cells ssrc number = store_after (refused NoFreePlace) places cells
+  abbrev pub started_at : Option ℕ → List ℕ → List ℕ → ℕ → ℕ → StoreAfter A
+  started_at (Some p) places cells ssrc number = moved places cells p ssrc number cells_of_a_place
+  started_at None places cells ssrc number = store_after (refused NoFreePlace) places cells
 
   -- a number of a stream, by where the stream was found: 3 or 2
-  abbrev pub admitted_at : Found → List ℕ → List ℕ → ℕ → ℕ → StoreAfter A
-  admitted_at (At p) places cells ssrc number = continued places cells p ssrc number
-  admitted_at Nothing places cells ssrc number = started_at (free_of places) places cells ssrc number
+  abbrev pub admitted_at : Option ℕ → List ℕ → List ℕ → ℕ → ℕ → StoreAfter A
+  admitted_at (Some p) places cells ssrc number = continued places cells p ssrc number
+  admitted_at None places cells ssrc number = started_at (free_of places) places cells ssrc number

@@ -8,14 +8,14 @@ use native.Mathlib.Omega.{arith}
 use native.Mathlib.Decide.{ℕ_discrete}
 use borrow.Author.Tests.{eq-eqb, ne_eqb}
 use Rattle.places.specs.Place.{held, place_word, ssrc_of, highest_of, read_place, is_stream, is_free, find_from, find_of}
-use Rattle.places.specs.declared.Holding.TheVariants.{Free, Held}
+use Rattle.std.specs.Prelude.{Some, None}
 
 module _ (word : ℕ) where
-  pub read_held : word / held ≡ 1 → read_place word ≡ Held (ssrc_of word) (highest_of word)
+  pub read_held : word / held ≡ 1 → read_place word ≡ Some (record { ssrc = ssrc_of word; highest = highest_of word })
   unfolding read_place
   read_held e = simp (eq-eqb (word / held) 1 e)
 
-  pub read_free : (word / held ≡ 1 → ⊥) → read_place word ≡ Free
+  pub read_free : (word / held ≡ 1 → ⊥) → read_place word ≡ None
   unfolding read_place
   read_free n = simp (ne_eqb (word / held) 1 n)
 
@@ -38,13 +38,13 @@ module _ (word : ℕ) where
   free_not e = rw (read_held e)
 
 -- a word as a call writes it
-pub read_word : (ssrc number : ℕ) → ssrc < 2 ^ 32 → number < 2 ^ 16 → read_place (place_word ssrc number) ≡ Held ssrc number
+pub read_word : (ssrc number : ℕ) → ssrc < 2 ^ 32 → number < 2 ^ 16 → read_place (place_word ssrc number) ≡ Some (record { ssrc = ssrc; highest = number })
 read_word ssrc number l h =
     let s : ssrc_of (place_word ssrc number) ≡ ssrc = omega arith in
     let n : highest_of (place_word ssrc number) ≡ number = omega arith in
     rw (read_held (place_word ssrc number) (omega arith), s, n)
 
-pub read_zero : read_place 0 ≡ Free
+pub read_zero : read_place 0 ≡ None
 read_zero = read_free 0 (λ e. omega arith)
 
 -- a search that starts at the first place is the whole search

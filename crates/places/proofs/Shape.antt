@@ -7,7 +7,7 @@ use native.Mathlib.Omega.{arith}
 use native.Mathlib.Decide.{ℕ_discrete, dec_le}
 use borrow.Author.Tests.{lt-ltb, le-ltb, eq-eqb, ne_eqb, eqb-true}
 use lib.ListN.{length}
-use Rattle.lists.specs.declared.Found.TheVariants.{At}
+use Rattle.std.specs.Prelude.{Some}
 use Rattle.lists.proofs.First.{first_below}
 use Rattle.places.specs.Place.{find_of, free_of}
 use Rattle.places.specs.Shape.{shaped, Shaped, Misshapen, none, too_many_of, disagree, Ready, most_places}
@@ -41,10 +41,10 @@ module _ (places cells : List ℕ) where
       ]
 
   -- a place that a search found is there
-  pub ready_found : (ssrc p : ℕ) → Shaped places cells → find_of places ssrc ≡ At p → Ready places cells p
+  pub ready_found : (ssrc p : ℕ) → Shaped places cells → find_of places ssrc ≡ Some p → Ready places cells p
   ready_found ssrc p s f = record { there = let l = first_below _ _ _ _ f in omega arith; few = s.few; sized = s.sized }
 
-  pub ready_free : (p : ℕ) → Shaped places cells → free_of places ≡ At p → Ready places cells p
+  pub ready_free : (p : ℕ) → Shaped places cells → free_of places ≡ Some p → Ready places cells p
   ready_free p s f = record { there = let l = first_below _ _ _ _ f in omega arith; few = s.few; sized = s.sized }
 
 pub misshapen_is : (places cells : List ℕ) → Misshapen places cells → shaped places cells ≡ false

@@ -5,9 +5,8 @@
 --   word % 2^16          its highest sequence number
 use Rattle.std.specs.Prelude.{ℕ, ◌+◌, ◌-◌, ◌*◌, ◌/◌, ◌%◌, ◌^◌, Bool, true, false, cond, List, length, get_or, eqb}
 use Rattle.lists.specs.First.{first_from}
-use Rattle.lists.specs.declared.Found.{Found}
-use Rattle.places.specs.declared.Holding.{Holding}
-use Rattle.places.specs.declared.Holding.TheVariants.{Free, Held}
+use Rattle.std.specs.Prelude.{Option, Some, None}
+use Rattle.places.specs.declared.Stream.{Stream}
 
 -- the bit of a held place
 abbrev pub held : ℕ
@@ -30,24 +29,24 @@ ssrc_of word = word / ssrc_unit % ssrcs
 abbrev pub highest_of : ℕ → ℕ
 highest_of word = word % ssrc_unit
 
-unfoldable pub read_place : ℕ → Holding
-read_place word = cond (eqb (word / held) 1) (Held (ssrc_of word) (highest_of word)) Free
+unfoldable pub read_place : ℕ → Option Stream
+read_place word = cond (eqb (word / held) 1) (Some (record { ssrc = ssrc_of word; highest = highest_of word })) None
 
 -- what the place k holds; free past the end
-abbrev pub place_at : List ℕ → ℕ → Holding
+abbrev pub place_at : List ℕ → ℕ → Option Stream
 place_at places k = read_place (get_or places k 0)
 
 -- the highest number that the place k keeps
 abbrev pub highest_at : List ℕ → ℕ → ℕ
 highest_at places k = highest_of (get_or places k 0)
 
-abbrev pub is_stream : ℕ → Holding → Bool
-is_stream ssrc Free = false
-is_stream ssrc (Held x highest) = eqb x ssrc
+abbrev pub is_stream : ℕ → Option Stream → Bool
+is_stream ssrc None = false
+is_stream ssrc (Some s) = eqb s.ssrc ssrc
 
-abbrev pub is_free : Holding → Bool
-is_free Free = true
-is_free (Held x highest) = false
+abbrev pub is_free : Option Stream → Bool
+is_free None = true
+is_free (Some s) = false
 
 -- the place k holds the stream
 abbrev pub holds : List ℕ → ℕ → ℕ → Bool
@@ -57,13 +56,13 @@ abbrev pub free : List ℕ → ℕ → Bool
 free places k = is_free (place_at places k)
 
 -- the first place with the index i or a higher one that holds the stream
-abbrev pub find_from : List ℕ → ℕ → ℕ → Found
+abbrev pub find_from : List ℕ → ℕ → ℕ → Option ℕ
 find_from places ssrc i = first_from (holds places ssrc) i (length places - i)
 
 -- rule "Any content": where two places hold the stream, the lower one is found
-abbrev pub find_of : List ℕ → ℕ → Found
+abbrev pub find_of : List ℕ → ℕ → Option ℕ
 find_of places ssrc = first_from (holds places ssrc) 0 (length places)
 
 -- the lowest free place
-abbrev pub free_of : List ℕ → Found
+abbrev pub free_of : List ℕ → Option ℕ
 free_of places = first_from (free places) 0 (length places)

@@ -5,7 +5,6 @@ ghost use Rattle.std.specs.Prelude.{◌≡◌, ◌<◌, length};
 ghost use Rattle.places.specs.Place.{highest_at, read_place, find_from, find_of, free_of};
 ghost use Rattle.places.specs.Shape.{shaped};
 
-use lists::Found;
 use ring::CELLS_OF_A_PLACE;
 
 pub const MOST_PLACES: usize = 16;
@@ -17,11 +16,11 @@ pub const SSRC_UNIT: u64 = 0x1_0000;
 
 const SSRCS: u64 = 0x1_0000_0000;
 
-// What a place holds: nothing, or a stream with its SSRC and its highest number.
+// A stream that a place holds: its SSRC and its highest number.
 #[derive(Clone, Copy)]
-pub enum Holding {
-    Free,
-    Held { ssrc: u32, highest: u16 },
+pub struct Stream {
+    pub ssrc: u32,
+    pub highest: u16,
 }
 
 // 1 to 16 places, each with its cells.
@@ -39,16 +38,16 @@ pub fn is_shaped(places: &[u64], cells: &[u64]) -> bool
 }
 
 // What a place's word says.
-pub fn read_place(word: u64) -> Holding
+pub fn read_place(word: u64) -> Option<Stream>
     ensures value { result ≡ read_place word }
 {
     if word / HELD == 1 {
-        return Holding::Held {
+        return Some(Stream {
             ssrc: (word / SSRC_UNIT % SSRCS) as u32,
             highest: (word % SSRC_UNIT) as u16,
-        };
+        });
     }
-    Holding::Free
+    None
 }
 
 // The highest number that the place p keeps.
@@ -60,37 +59,28 @@ pub fn highest_at(places: &[u64], p: usize) -> u16
 }
 
 // The first place with the index `from` or a higher one that holds the stream of an SSRC.
-pub fn find_from(places: &[u64], ssrc: u32, from: usize) -> Found
+pub fn find_from(places: &[u64], ssrc: u32, from: usize) -> Option<usize>
     ensures value { result ≡ find_from places.now ssrc from }
 {
     let key = HELD / SSRC_UNIT + (ssrc as u64);
-    let mut i = from;
-    while i < places.len() {
+    for i in from..places.len() {
         if places[i] / SSRC_UNIT == key {
-            return Found::At(i);
+            return Some(i);
         }
-        i += 1;
     }
-    Found::Nothing
+    None
 }
 
 // The first place that holds the stream of an SSRC.
-pub fn find(places: &[u64], ssrc: u32) -> Found
+pub fn find(places: &[u64], ssrc: u32) -> Option<usize>
     ensures value { result ≡ find_of places.now ssrc }
 {
     find_from(places, ssrc, 0)
 }
 
 // The first free place.
-pub fn first_free(places: &[u64]) -> Found
+pub fn first_free(places: &[u64]) -> Option<usize>
     ensures value { result ≡ free_of places.now }
 {
-    let mut i = 0;
-    while i < places.len() {
-        if places[i] / HELD != 1 {
-            return Found::At(i);
-        }
-        i += 1;
-    }
-    Found::Nothing
+    places.iter().position(|&word| word / HELD != 1)
 }

@@ -4,7 +4,7 @@ use mathlib.Core.List.{List, [], ◌∷◌}
 use Prim.Native.Nat.{ℕ, zero, suc, ◌+◌, ◌-◌, ◌*◌, ◌/◌, ◌≤◌, ◌<◌}
 use native.Mathlib.Omega.{arith}
 use native.Mathlib.Nat.{suc-mul, mul-le-mul, mul-le-mul_left, div-add-mod', mod-lt}
-use lib.ListN.{length, take, drop, get_or}
+use lib.ListN.{length, drop, get_or}
 use Rattle.packet.specs.Sizes.{block_octets}
 use Rattle.plan_size.specs.declared.Added.{Added}
 use Rattle.cutting.specs.declared.Request.{Request}
@@ -130,45 +130,42 @@ module _ (limit : ℕ) (enough : least_limit ≤ limit) where
 
 -- ---- all requests
 
--- what was added for the first i of n requests
-pub record Added-up (limit : ℕ) (rs : List Request) (n made end room i : ℕ) : Type 0 where
-  pub packets : made + packets_behind limit room (whole_blocks i (drop i (take n rs))) ≡ length (plan limit (take n rs))
-  pub octets : end + octets_behind limit room (whole_blocks i (drop i (take n rs))) ≡ total_octets (plan limit (take n rs))
+-- what was added for the first i of the requests
+pub record Added-up (limit : ℕ) (rs : List Request) (made end room i : ℕ) : Type 0 where
+  pub packets : made + packets_behind limit room (whole_blocks i (drop i rs)) ≡ length (plan limit rs)
+  pub octets : end + octets_behind limit room (whole_blocks i (drop i rs)) ≡ total_octets (plan limit rs)
   pub few : made ≤ most_added * i
   pub small : end ≤ (most_added + 1) * most_limit * i
   pub left : room ≤ most_limit
-  pub some : i ≤ n
 
-module _ (limit : ℕ) (rs : List Request) (n : ℕ) (fits : n ≤ length rs) where
-  pub added_none : Added-up limit rs n 0 0 0 0
+module _ (limit : ℕ) (rs : List Request) where
+  pub added_none : Added-up limit rs 0 0 0 0
   added_none = record {
-    packets = rw (closed_0 (whole_blocks 0 (take n rs))) (omega arith);
-    octets = rw (closed_0 (whole_blocks 0 (take n rs))) (omega arith);
+    packets = rw (closed_0 (whole_blocks 0 rs)) (omega arith);
+    octets = rw (closed_0 (whole_blocks 0 rs)) (omega arith);
     few = omega arith;
     small = omega arith;
     left = omega arith;
-    some = omega arith;
   }
 
-  pub added_one : (made end room i : ℕ) (r : Added) → Added-up limit rs n made end room i → i < n → Adds limit room (get_or rs i no_request).count r
-      → Added-up limit rs n (made + r.packets) (end + r.octets) r.room (i + 1)
+  pub added_one : (made end room i : ℕ) (r : Added) → Added-up limit rs made end room i → i < length rs
+      → Adds limit room (get_or rs i no_request).count r → Added-up limit rs (made + r.packets) (end + r.octets) r.room (i + 1)
   added_one made end room i r u h a =
-      let e = blocks_cons rs n fits i h in
-      let w : List CutBlock = whole_blocks (i + 1) (drop (i + 1) (take n rs)) in
+      let e = blocks_cons rs i h in
+      let w : List CutBlock = whole_blocks (i + 1) (drop (i + 1) rs) in
       record {
-        packets = omega (arith, rw e at u.packets, a.packets (block_at rs n fits i) w refl);
-        octets = omega (arith, rw e at u.octets, a.octets (block_at rs n fits i) w refl);
+        packets = omega (arith, rw e at u.packets, a.packets (block_at rs i) w refl);
+        octets = omega (arith, rw e at u.octets, a.octets (block_at rs i) w refl);
         few = omega (arith, u.few, a.few);
         small = omega (arith, u.small, a.small, u.left);
         left = a.left;
-        some = omega arith;
       }
 
-  pub added_all : (made end room i : ℕ) → Added-up limit rs n made end room i → n ≤ i
-      → Measures (plan limit (take n rs)) (record { packets = made; octets = end })
+  pub added_all : (made end room i : ℕ) → Added-up limit rs made end room i → length rs ≤ i
+      → Measures (plan limit rs) (record { packets = made; octets = end })
   added_all made end room i u h =
-      let e = blocks_none rs n fits i h in
-      let f : filled_from room (whole_blocks i (drop i (take n rs))) ≡ closed [] = rw e (filled_none room) in
+      let e = blocks_none rs i h in
+      let f : filled_from room (whole_blocks i (drop i rs)) ≡ closed [] = rw e (filled_none room) in
       record {
         packets = omega (arith, rw (f, plan_none limit) at u.packets);
         octets = omega (arith, rw (f, plan_none limit) at u.octets);

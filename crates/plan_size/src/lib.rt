@@ -1,13 +1,13 @@
 // How many packets a plan has, and their octets, before any is written.
 #![tactic(auto)]
 
-ghost use Rattle.std.specs.Prelude.{◌≤◌, ◌<◌, take};
+ghost use Rattle.std.specs.Prelude.{◌≤◌, ◌<◌, length};
 ghost use Rattle.cutting.specs.Limits.{least_limit, most_limit, most_requests};
 ghost use Rattle.cutting.specs.Plan.{plan};
 ghost use Rattle.plan_size.specs.Steps.{FullPackets, Adds};
 ghost use Rattle.plan_size.specs.Measure.{Measures};
 
-use cutting::{MOST_REQUESTS, NextBlock, Request};
+use cutting::{NextBlock, Request};
 use packet::PACKET_FRAME;
 
 // How many packets there are, and their octets together.
@@ -59,8 +59,7 @@ fn add_range(limit: usize, room: usize, count: u16) -> Added
     requires small { room ≤ most_limit }
     ensures value { Adds limit room count result }
 {
-    let next = cutting::next_block(room, count);
-    match next {
+    match cutting::next_block(room, count) {
         NextBlock::Whole => Added {
             packets: 0,
             octets: packet::block_octets(count),
@@ -78,28 +77,22 @@ fn add_range(limit: usize, room: usize, count: u16) -> Added
     }
 }
 
-// How many packets the first n requests take, and their octets. It divides, for speed alone: it goes by requests, and
-// not by packets.
-pub fn measure(limit: usize, requests: [Request; MOST_REQUESTS], n: usize) -> Total
+// How many packets the requests take, and their octets. It divides, for speed alone: it goes by requests, and not by
+// packets.
+pub fn measure(limit: usize, requests: &[Request]) -> Total
     requires least { least_limit ≤ limit }
     requires most { limit ≤ most_limit }
-    requires few { n ≤ most_requests }
-    ensures value { Measures (plan limit (take n requests)) result }
+    requires few { length requests.now ≤ most_requests }
+    ensures value { Measures (plan limit requests.now) result }
 {
     let mut packets = 0;
     let mut octets = 0;
     let mut room = 0;
-    let mut i = 0;
-    while i < n {
-        let r = requests[i];
+    for r in requests {
         let more = add_range(limit, room, r.count);
         packets += more.packets;
         octets += more.octets;
         room = more.room;
-        i += 1;
     }
-    Total {
-        packets: packets,
-        octets: octets,
-    }
+    Total { packets, octets }
 }

@@ -1,13 +1,12 @@
 -- Rules: "Reader". What any octets are read as, a packet or the reader's first refusal, and the
 -- answer about the whole: sender, RTS and number of blocks (rule "Whole packet").
-use Rattle.std.specs.Prelude.{ℕ, zero, suc, ◌+◌, List, [], ◌∷◌, map, length}
+use Rattle.std.specs.Prelude.{ℕ, zero, suc, ◌+◌, List, [], ◌∷◌, map, length, Result, Ok, Err}
 use Rattle.refusal.specs.declared.Refusal.{Refusal}
 use Rattle.octets.specs.Octets.{be16, be32}
 use Rattle.packet.specs.Packet.{Block, Packet, sender_at}
 use Rattle.walk.specs.Walk.{Walked, walked, stopped, walk_of, rts_at}
 use Rattle.walk.specs.declared.ReportBlock.{ReportBlock}
-use Rattle.reader.specs.declared.Reading.{Reading}
-use Rattle.reader.specs.declared.Reading.TheVariants as reading
+use Rattle.reader.specs.declared.Summary.{Summary}
 
 -- ---- what any octets are read as
 
@@ -38,6 +37,6 @@ decode_packet s = decoded (walk_of s) s
 
 -- ---- sender, RTS and number of blocks
 
-abbrev pub read_of : Decoded → Reading
-read_of (packet p) = reading.Accepted p.sender p.rts (length p.blocks)
-read_of (refused e) = reading.Refused e
+abbrev pub read_of : Decoded → Result Summary Refusal
+read_of (packet p) = Ok (record { sender = p.sender; rts = p.rts; blocks = length p.blocks })
+read_of (refused e) = Err e

@@ -7,69 +7,49 @@ ghost use Rattle.reader.specs.Reading.{decode_packet, read_of};
 ghost use Rattle.reader.specs.Steps.{counted};
 
 use packet::{RTS_OCTETS, SENDER_AT};
-use packet_header::{Cursor, Start};
+use packet_header::Cursor;
 use refusal::Refusal;
-use walk::Step;
-
-// How many blocks were walked, or the refusal that stopped the walk.
-#[derive(Clone, Copy)]
-pub enum Count {
-    Blocks(usize),
-    Stopped(Refusal),
-}
 
 // The answer about the whole packet.
 #[derive(Clone, Copy)]
-pub enum Reading {
-    Accepted {
-        sender: u32,
-        rts: u32,
-        blocks: usize,
-    },
-    Refused(Refusal),
+pub struct Summary {
+    pub sender: u32,
+    pub rts: u32,
+    pub blocks: usize,
 }
 
 // How many blocks the walk that starts at a cursor finds. Only our own crates call it.
-pub fn count_blocks_from(packet: &[u8], from: Cursor) -> Count
+#[tactic(auto, using(crate::proofs::Answers::counts))]
+pub fn count_blocks_from(packet: &[u8], from: Cursor) -> Result<usize, Refusal>
     ensures value { result ≡ counted 0 (walk_from packet.now from.at) }
 {
     let mut cursor = from;
     let mut n = 0;
-    loop {
-        let here = walk::next(cursor, packet);
-        match here {
-            Step::Block(_, next) => {
-                cursor = next;
-                n += 1;
-            }
-            Step::End => return Count::Blocks(n),
-            Step::Refused(e) => return Count::Stopped(e),
-        }
+    while let Some((_, next)) = walk::next(cursor, packet)? {
+        cursor = next;
+        n += 1;
     }
+    Ok(n)
 }
 
 // The number of blocks of a packet, or the first refusal.
-pub fn count_blocks(packet: &[u8]) -> Count
+#[tactic(auto, unfolding(walk::specs::Walk::walk_of))]
+pub fn count_blocks(packet: &[u8]) -> Result<usize, Refusal>
     ensures value { result ≡ counted 0 (walk_of packet.now) }
 {
-    let first = packet_header::read_header(packet);
-    match first {
-        Start::At(cursor) => count_blocks_from(packet, cursor),
-        Start::Refused(e) => Count::Stopped(e),
-    }
+    let cursor = packet_header::read_header(packet)?;
+    count_blocks_from(packet, cursor)
 }
 
 // The sender, RTS and the number of blocks of a packet.
-pub fn read(packet: &[u8]) -> Reading
+#[tactic(auto, using(crate::proofs::Answers::summary_counted, crate::proofs::Answers::counted_long))]
+pub fn read(packet: &[u8]) -> Result<Summary, Refusal>
     ensures value { result ≡ read_of (decode_packet packet.now) }
 {
-    let count = count_blocks(packet);
-    match count {
-        Count::Blocks(n) => Reading::Accepted {
-            sender: octets::get32(packet, SENDER_AT),
-            rts: octets::get32(packet, packet.len() - RTS_OCTETS),
-            blocks: n,
-        },
-        Count::Stopped(e) => Reading::Refused(e),
-    }
+    let blocks = count_blocks(packet)?;
+    Ok(Summary {
+        sender: octets::get32(packet, SENDER_AT),
+        rts: octets::get32(packet, packet.len() - RTS_OCTETS),
+        blocks,
+    })
 }

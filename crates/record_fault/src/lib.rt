@@ -1,5 +1,5 @@
 // What is wrong with the fields of a record of the arrival file.
-#![tactic(auto)]
+#![tactic(auto, unfolding(crate::specs::Fault::is_faulty))]
 
 ghost use Rattle.std.specs.Prelude.{◌≡◌};
 ghost use Rattle.record_fault.specs.Fault.{is_faulty};
@@ -10,14 +10,5 @@ use metric::CONGESTED;
 pub fn is_faulty(mark: u8, flag: u8, time: u32) -> bool
     ensures value { result ≡ is_faulty mark flag time }
 {
-    if CONGESTED < mark {
-        return true;
-    }
-    if 1 < flag {
-        return true;
-    }
-    if flag == 1 {
-        return false;
-    }
-    time != 0
+    mark > CONGESTED || flag > 1 || (flag == 0 && time != 0)
 }

@@ -2,16 +2,16 @@
 // most numbers that one arrival passed over.
 #![tactic(auto)]
 
-ghost use Rattle.std.specs.Prelude.{◌≡◌, ◌/◌, ◌≤◌, max, length, drop};
+ghost use Rattle.std.specs.Prelude.{◌≡◌, ◌/◌, ◌≤◌, length, drop};
 ghost use Rattle.arrival_record.specs.Record.{record_octets};
 ghost use Rattle.arrival_file.specs.Pieces.{taken};
-ghost use Rattle.recording.specs.Recorded.{last_known, gap_after, recorded, after_record};
+ghost use Rattle.recording.specs.Recorded.{gap_after, recorded, after_record};
 ghost use Rattle.recording.specs.Steps.{TakenTo};
 
-use admission::{Arrival, ArrivalKind};
+use admission::ArrivalKind;
 use arrival_file::Phase;
-use arrival_record::{RECORD_OCTETS, RecordRead};
-use metric::Time;
+use arrival_record::RECORD_OCTETS;
+use refusal::Refusal;
 
 // How far the octets at hand were taken: `at` is the offset of the first that was not. RTS and the gap are those of all
 // records so far.
@@ -23,35 +23,13 @@ pub struct Taken {
     pub at: usize,
 }
 
-// RTS after a record with this time.
-fn last_known(rts: u32, time: Time) -> u32
-    ensures value { result ≡ last_known rts time }
-{
-    match time {
-        Time::Unknown => rts,
-        Time::Known(t) => t,
-    }
-}
-
-// The larger of two numbers.
-fn larger(a: u16, b: u16) -> u16
-    ensures value { result ≡ max a b }
-{
-    if a < b { b } else { a }
-}
-
 // The gap after an arrival with this answer.
-fn gap_after(gap: u16, answer: Arrival) -> u16
+fn gap_after(gap: u16, answer: Result<ArrivalKind, Refusal>) -> u16
     ensures value { result ≡ gap_after gap answer }
 {
     match answer {
-        Arrival::Accepted(kind) => match kind {
-            ArrivalKind::Ahead(n) => larger(gap, n),
-            ArrivalKind::First => gap,
-            ArrivalKind::Late => gap,
-            ArrivalKind::Copy => gap,
-        },
-        Arrival::Refused(_) => gap,
+        Ok(ArrivalKind::Ahead(n)) => gap.max(n),
+        _ => gap,
     }
 }
 
@@ -69,21 +47,17 @@ pub fn take_records(
         (taken after_record (length (drop from s.now) / record_octets)
         (recorded places.old cells.old rts gap) (drop from s.now)) }
 {
-    let mut at = from;
     let mut last = rts;
     let mut largest = gap;
-    while RECORD_OCTETS <= s.len() - at {
-        let here = arrival_record::read_record(&s[at..]);
-        match here {
-            RecordRead::Record(r) => {
-                let time = r.time;
+    for octets in s[from..].chunks_exact(RECORD_OCTETS) {
+        match arrival_record::read_record(octets) {
+            Ok(r) => {
                 // RTS comes first on purpose: the time is then not kept in memory over the arrival.
-                last = last_known(last, time);
-                let answer = arrivals::arrive(places, cells, r.ssrc, r.number, r.mark, time);
+                last = r.time.unwrap_or(last);
+                let answer = arrivals::arrive(places, cells, r.ssrc, r.number, r.mark, r.time);
                 largest = gap_after(largest, answer);
-                at += RECORD_OCTETS;
             }
-            RecordRead::Refused(e) => {
+            Err(e) => {
                 return Taken {
                     phase: Phase::Faulty(e),
                     rts: last,
@@ -97,6 +71,6 @@ pub fn take_records(
         phase: Phase::Records,
         rts: last,
         gap: largest,
-        at: at,
+        at: s.len() - (s.len() - from) % RECORD_OCTETS,
     }
 }

@@ -12,7 +12,7 @@ use Rattle.packet.specs.Packet.{encode_metrics, filler, block_header, encode_blo
 use Rattle.packet.proofs.Sizes.{length_metrics}
 use Rattle.cutting.specs.Cutting.{following, numbers_from}
 use Rattle.cutting.specs.Plan.{number_after}
-use Rattle.cutting.proofs.Requests.{length_numbers}
+use Rattle.cutting.proofs.Requests.{length_numbers, after_add}
 
 module _ (m : ℕ → ℕ) where
   abbrev pub metrics_of : ℕ → ℕ → List ℕ
@@ -29,10 +29,14 @@ module _ (m : ℕ → ℕ) where
       let e : suc k - 1 ≡ k = omega arith in
       rw e (sets_next (octets16 (m s)) (encode_metrics (metrics_of (following s) k)) out i (i + 2) refl)
 
-  -- one metric written, and the others to be written
-  pub metrics_turn : (out out' whole : List ℕ) (i s s' k v : ℕ) → 0 < k → v ≡ m s → s' ≡ number_after s 1 → out' ≡ sets out i (octets16 v)
-      → sets out i (encode_metrics (metrics_of s k)) ≡ whole → sets out' (i + 2) (encode_metrics (metrics_of s' (k - 1))) ≡ whole
-  metrics_turn out out' whole i s s' k v h e f o w = rw (o, e, f, metrics_more out i s k h, w)
+  -- the metric of the i-th number written, and the others to be written
+  pub metrics_turn : (out out' whole : List ℕ) (at begin k i v : ℕ) → i < k → v ≡ m (number_after begin i) → out' ≡ sets out (at + 2 * i) (octets16 v)
+      → sets out (at + 2 * i) (encode_metrics (metrics_of (number_after begin i) (k - i))) ≡ whole
+      → sets out' (at + 2 * (i + 1)) (encode_metrics (metrics_of (number_after begin (i + 1)) (k - (i + 1)))) ≡ whole
+  metrics_turn out out' whole at begin k i v h e o w =
+      let next : at + 2 * (i + 1) ≡ at + 2 * i + 2 = omega arith in
+      let left : k - (i + 1) ≡ k - i - 1 = omega arith in
+      rw (o, e, next, left, ← after_add begin i 1, metrics_more out (at + 2 * i) (number_after begin i) (k - i) (omega arith), w)
 
   pub metrics_none : (s k : ℕ) → k ≤ 0 → encode_metrics (metrics_of s k) ≡ []
   unfolding encode_metrics

@@ -18,14 +18,10 @@ fn put_metrics(out: &mut [u8], at: usize, cells: &[u64], rts: u32, p: usize, beg
     ensures content { out.new
         ≡ sets out.old at (encode_metrics (map (cell_metric cells.now rts p) (numbers_from begin count))) }
 {
-    let mut i = at;
-    let mut number = begin;
-    let mut left = count;
-    while 0 < left {
-        octets_put::put16(out, i, cell_metrics::cell_metric(cells, rts, p, number));
-        i += 2;
-        number = cutting::number_after(number, 1);
-        left -= 1;
+    for i in 0..count {
+        let number = cutting::number_after(begin, i);
+        let metric = cell_metrics::cell_metric(cells, rts, p, number);
+        octets_put::put16(out, at + 2 * (i as usize), metric);
     }
 }
 

@@ -7,9 +7,9 @@ use Rattle.walk.specs.declared.ReportBlock.{ReportBlock}
 use Rattle.packet_header.specs.declared.Cursor.{Cursor}
 use Rattle.walk.proofs.Steps.{found}
 use Rattle.reports.specs.Reports.{Within}
-use Rattle.walk.specs.declared.Step.TheVariants.{Block}
+use Rattle.std.specs.Prelude.{Some, Ok}
 
-module _ (s : List ℕ) (at : ℕ) (b : ReportBlock) (next : Cursor) (e : step_at s at ≡ Block b next) where
+module _ (s : List ℕ) (at : ℕ) (b : ReportBlock) (next : Cursor) (e : step_at s at ≡ Ok (Some (b, next))) where
   pub within : Within s b
   within = let f = found s at b next e in rw f.is (record { room = omega (arith, f.room) })
 

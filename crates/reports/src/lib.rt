@@ -8,23 +8,24 @@ use metric::Metric;
 use refusal::Refusal;
 use walk::ReportBlock;
 
+// What a metric of a block says, and of which number.
 #[derive(Clone, Copy)]
-pub enum MetricAnswer {
-    Reported { number: u16, metric: Metric },
-    Refused(Refusal),
+pub struct Reported {
+    pub number: u16,
+    pub metric: Metric,
 }
 
 // Metric j, from 0, of a block.
-pub fn metric_in(packet: &[u8], b: ReportBlock, j: usize) -> MetricAnswer
+pub fn metric_in(packet: &[u8], b: ReportBlock, j: usize) -> Result<Reported, Refusal>
     requires within { Within packet.now b }
     ensures value { result ≡ reported_in b packet.now j }
 {
     if (b.num_reports as usize) <= j {
-        return MetricAnswer::Refused(Refusal::NoNumber);
+        return Err(Refusal::NoNumber);
     }
     let at = b.metrics_at + 2 * j;
-    MetricAnswer::Reported {
+    Ok(Reported {
         number: std::num::wrapping_add_u16(b.begin_seq, j as u16),
         metric: metric_decode::decode(octets::get16(packet, at)),
-    }
+    })
 }

@@ -1,4 +1,4 @@
--- Rules: "Requests". Requests that are lent as a list, as the array of 16 that the writer takes.
+-- Rules: "Requests". Requests that are lent as a list, as an array of 16.
 use Rattle.std.specs.Prelude.{List, take, replicate}
 use Rattle.std.proofs.lemmas.List.Edits.{sets}
 use Rattle.cutting.specs.Limits.{most_requests}

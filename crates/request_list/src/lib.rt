@@ -1,4 +1,4 @@
-// Requests that C lends as a list of records, gathered into the array that the writer takes.
+// Requests that C lends as a list of records, gathered into an array of 16.
 #![tactic(auto)]
 
 ghost use Rattle.std.specs.Prelude.{◌≡◌};
@@ -15,14 +15,7 @@ pub fn gathered(requests: &[Request]) -> [Request; MOST_REQUESTS]
         begin: 0,
         count: 0,
     }; MOST_REQUESTS];
-    let mut i = 0;
-    let mut n = requests.len();
-    if MOST_REQUESTS < n {
-        n = MOST_REQUESTS;
-    }
-    while i < n {
-        all[i] = requests[i];
-        i += 1;
-    }
+    let n = requests.len().min(MOST_REQUESTS);
+    all[..n].copy_from_slice(&requests[..n]);
     all
 }

@@ -13,50 +13,44 @@ use Rattle.places.specs.Place.{find_of}
 use Rattle.cutting.specs.Cutting.{stream_of}
 use Rattle.cutting.specs.declared.Request.{Request}
 use Rattle.cutting.proofs.Requests.{no_request, rest_cons, rest_none}
-use Rattle.request_check.specs.declared.Checked.{Checked}
+use Rattle.std.specs.Prelude.{Result, Some, Ok, Err}
 use Rattle.request_check.specs.Check.{check_of}
-use Rattle.requests.specs.declared.Verdict.{Verdict}
 use Rattle.requests.specs.Requests.{and_then, checked}
-use Rattle.lists.specs.declared.Found.TheVariants as lists
-use Rattle.request_check.specs.declared.Checked.TheVariants.{At, Fault}
-use Rattle.requests.specs.declared.Verdict.TheVariants as verdict
 
-module _ (rs : List Request) (n : ℕ) (fits : n ≤ length rs) where
+module _ (rs : List Request) where
   -- the checks starting at i
-  pub checked_at : (places : List ℕ) (i : ℕ) → i < n
-      → checked places (take i rs) (drop i (take n rs))
-      ≡ and_then (check_of places (take i rs) (get_or rs i no_request)) (checked places (take (i + 1) rs) (drop (i + 1) (take n rs)))
+  pub checked_at : (places : List ℕ) (i : ℕ) → i < length rs
+      → checked places (take i rs) (drop i rs)
+      ≡ and_then (check_of places (take i rs) (get_or rs i no_request)) (checked places (take (i + 1) rs) (drop (i + 1) rs))
   unfolding checked
-  checked_at places i h =
-      let l : i < length rs = omega arith in
-      rw (rest_cons rs n fits i h, add-one, take-suc rs i no_request l)
+  checked_at places i h = rw (rest_cons rs i h, add-one, take-suc rs i no_request h)
 
   -- a turn: the request is sound, or not
-  module _ (places : List ℕ) (i : ℕ) (h : i < n) (f : Checked) (c : f ≡ check_of places (take i rs) (get_or rs i no_request))
-      (whole : Verdict) (u : checked places (take i rs) (drop i (take n rs)) ≡ whole) where
-    pub checked_on : (p : ℕ) → f ≡ At p → checked places (take (i + 1) rs) (drop (i + 1) (take n rs)) ≡ whole
+  module _ (places : List ℕ) (i : ℕ) (h : i < length rs) (f : Result ℕ Refusal) (c : f ≡ check_of places (take i rs) (get_or rs i no_request))
+      (whole : Result (Unit {0}) Refusal) (u : checked places (take i rs) (drop i rs) ≡ whole) where
+    pub checked_on : (p : ℕ) → f ≡ Ok p → checked places (take (i + 1) rs) (drop (i + 1) rs) ≡ whole
     checked_on p e =
-        ap (λ (x : Checked). and_then x (checked places (take (i + 1) rs) (drop (i + 1) (take n rs)))) (sym e ∙ c)
+        ap (λ (x : Result ℕ Refusal). and_then x (checked places (take (i + 1) rs) (drop (i + 1) rs))) (sym e ∙ c)
         ∙ sym (checked_at places i h) ∙ u
 
-    pub checked_fault : (x : Refusal) → f ≡ Fault x → verdict.Fault x ≡ whole
+    pub checked_fault : (x : Refusal) → f ≡ Err x → Err x ≡ whole
     checked_fault x e =
-        ap (λ (y : Checked). and_then y (checked places (take (i + 1) rs) (drop (i + 1) (take n rs)))) (sym e ∙ c)
+        ap (λ (y : Result ℕ Refusal). and_then y (checked places (take (i + 1) rs) (drop (i + 1) rs))) (sym e ∙ c)
         ∙ sym (checked_at places i h) ∙ u
 
-  pub checked_none : (places : List ℕ) (i : ℕ) → n ≤ i → checked places (take i rs) (drop i (take n rs)) ≡ verdict.Sound
+  pub checked_none : (places : List ℕ) (i : ℕ) → length rs ≤ i → checked places (take i rs) (drop i rs) ≡ Ok tt
   unfolding checked
-  checked_none places i h = rw (rest_none rs n fits i h)
+  checked_none places i h = rw (rest_none rs i h)
 
 -- `found` has the places of the first i requests
 abbrev pub FoundTo : List ℕ → List Request → List ℕ → ℕ → Type 0
-FoundTo places rs found i = (k : ℕ) → k < i → find_of places (stream_of rs k) ≡ lists.At (get_or found k 0)
+FoundTo places rs found i = (k : ℕ) → k < i → find_of places (stream_of rs k) ≡ Some (get_or found k 0)
 
 pub found_none : (places : List ℕ) (rs : List Request) (found : List ℕ) → FoundTo places rs found 0
 found_none places rs found k h = absurd (omega arith)
 
 pub found_more : (places : List ℕ) (rs : List Request) (found : List ℕ) (i p : ℕ) → i < length found
-    → FoundTo places rs found i → find_of places (stream_of rs i) ≡ lists.At p
+    → FoundTo places rs found i → find_of places (stream_of rs i) ≡ Some p
     → FoundTo places rs (set found i p) (i + 1)
 found_more places rs found i p h u f k l =
     elim (ℕ_discrete k i) [
@@ -64,5 +58,5 @@ found_more places rs found i p h u f k l =
       | no e ↦ rw (get_or-set_other found i k p 0 e) (u k (omega arith))
     ]
 
-pub no_fault : (x : Refusal) → verdict.Fault x ≡ verdict.Sound → ⊥
+pub no_fault : (x : Refusal) → ◌≡◌ {A = Result (Unit {0}) Refusal} (Err x) (Ok tt) → ⊥
 no_fault x e = never (cc)

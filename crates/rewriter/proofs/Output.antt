@@ -1,5 +1,5 @@
 -- What the rewriter's steps leave in the output. Assumes nothing.
-use Prim.Native.Nat.{ℕ, zero, suc, ◌+◌, ◌-◌, ◌*◌, ◌<◌, ◌≤◌}
+use Prim.Native.Nat.{ℕ, zero, suc, ◌+◌, ◌*◌, ◌<◌, ◌≤◌}
 use mathlib.Core.Path.{◌≡◌, refl, sym, ap, ◌∙◌}
 use mathlib.Core.List.{List, [], ◌∷◌, ◌++◌, map}
 use native.Mathlib.Omega.{arith}
@@ -16,21 +16,17 @@ use Rattle.packet.proofs.Sizes.{length_metrics, length_block, length_blocks}
 use Rattle.walk.specs.Walk.{rts_at, step_at, walked, walk_from, walk_of}
 use Rattle.walk.specs.declared.ReportBlock.{ReportBlock}
 use Rattle.packet_header.specs.declared.Cursor.{Cursor}
-use Rattle.walk.specs.declared.Step.{Step}
+use Rattle.std.specs.Prelude.{Option, Result, Some, None, Ok, Err}
 use Rattle.walk.proofs.Steps.{step_end, found, next_at, next_more, next_room}
 use Rattle.walk.proofs.Walks.{walk_ind}
 use Rattle.reader.specs.Reading.{metrics_at_of, block_in, packet_in, decode_packet}
 use Rattle.reader.specs.Steps.{counted}
-use Rattle.reader.specs.declared.Count.{Count}
-use Rattle.reader.proofs.Answers.{length_metrics_at, walked_sound, read_stopped, blocks_walked}
+use Rattle.reader.proofs.Answers.{length_metrics_at, walked_sound, blocks_walked}
 use Rattle.metric_rewriter.specs.Metrics.{rewrite_metric}
 use Rattle.metric_rewriter.proofs.Metrics.{rewritten_octets}
 use Rattle.rewriter.specs.Rewrite.{rewrite_block, rewrite_of, rewrite_packet}
 use Rattle.rewriter.specs.Steps.{on_block, rewritten_from}
 use Rattle.refusal.specs.declared.Refusal.TheVariants.{OutputTooShort}
-use Rattle.walk.specs.declared.Step.TheVariants as step
-use Rattle.reader.specs.declared.Count.TheVariants.{Blocks, Stopped}
-use Rattle.rewriter.specs.declared.Rewriting.TheVariants.{Written, Refused}
 
 -- rewriting changes no size
 pub rewrite_blocks_octets : (bs : List Block) → blocks_octets (report_counts (map rewrite_block bs)) ≡ blocks_octets (report_counts bs)
@@ -70,13 +66,13 @@ module _ (s : List ℕ) where
       by_step (step_at s at)
       (λ b next f. rewritten_enough n m next.at (omega (arith, next_more s at b next f)) (omega (arith, next_more s at b next f))) refl
     where
-      by_step : (k : Step) → ((b : ReportBlock) (next : Cursor) → step_at s at ≡ step.Block b next → rewritten_from n s next.at ≡ rewritten_from m s next.at)
+      by_step : (k : Result (Option (ReportBlock × Cursor)) Refusal) → ((b : ReportBlock) (next : Cursor) → step_at s at ≡ Ok (Some (b, next)) → rewritten_from n s next.at ≡ rewritten_from m s next.at)
           → step_at s at ≡ k
           → on_block k (λ b i. encode_block (rewrite_block (block_in s b)) ++ rewritten_from n s i)
           ≡ on_block k (λ b i. encode_block (rewrite_block (block_in s b)) ++ rewritten_from m s i)
-      by_step (step.Block b next) rest f = ap (λ (t : List ℕ). encode_block (rewrite_block (block_in s b)) ++ t) (rest b next f)
-      by_step step.End rest f = refl
-      by_step (step.Refused x) rest f = refl
+      by_step (Ok (Some (b, next))) rest f = ap (λ (t : List ℕ). encode_block (rewrite_block (block_in s b)) ++ t) (rest b next f)
+      by_step (Ok None) rest f = refl
+      by_step (Err x) rest f = refl
 
   abbrev pub rewritten_rest : ℕ → List ℕ
   rewritten_rest at = rewritten_from (length s) s at
@@ -85,31 +81,31 @@ module _ (s : List ℕ) where
   unfolding rewritten_from
   rewritten_step at = rewritten_enough (length s) (suc (length s)) at (omega arith) (omega arith)
 
-  block_size : (at : ℕ) (b : ReportBlock) (next : Cursor) → step_at s at ≡ step.Block b next → at + block_octets b.num_reports ≡ next.at
+  block_size : (at : ℕ) (b : ReportBlock) (next : Cursor) → step_at s at ≡ Ok (Some (b, next)) → at + block_octets b.num_reports ≡ next.at
   block_size at b next e = rw (found s at b next e).is (sym (next_at s at b next e))
 
-  module _ (at : ℕ) (k : Step) (is : k ≡ step_at s at) where
+  module _ (at : ℕ) (k : Result (Option (ReportBlock × Cursor)) Refusal) (is : k ≡ step_at s at) where
     -- a turn over the blocks
-    pub block_turn : (b : ReportBlock) (next : Cursor) (out o₁ : List ℕ) → k ≡ step.Block b next → o₁ ≡ sets out at (encode_block (rewrite_block (block_in s b)))
+    pub block_turn : (b : ReportBlock) (next : Cursor) (out o₁ : List ℕ) → k ≡ Ok (Some (b, next)) → o₁ ≡ sets out at (encode_block (rewrite_block (block_in s b)))
         → sets o₁ next.at (rewritten_rest next.at) ≡ sets out at (rewritten_rest at)
     block_turn b next out o₁ e w =
-        let f : step_at s at ≡ step.Block b next = sym is ∙ e in
+        let f : step_at s at ≡ Ok (Some (b, next)) = sym is ∙ e in
         let q = rewrite_block (block_in s b) in
         let t : rewritten_rest at ≡ encode_block q ++ rewritten_rest next.at = rewritten_step at ∙ rw f in
         rw (t, w)
         (sets_next (encode_block q) (rewritten_rest next.at) out at next.at
         (omega (arith, length_block q, length_rewrite b.metrics_at b.num_reports, block_size at b next f)))
 
-    pub blocks_end : (out : List ℕ) → k ≡ step.End → out ≡ sets out at (rewritten_rest at)
+    pub blocks_end : (out : List ℕ) → k ≡ Ok None → out ≡ sets out at (rewritten_rest at)
     blocks_end out e = rw (rewritten_step at, ← is, e)
 
-    pub blocks_refused : (out : List ℕ) (x : Refusal) → k ≡ step.Refused x → out ≡ sets out at (rewritten_rest at)
+    pub blocks_refused : (out : List ℕ) (x : Refusal) → k ≡ Err x → out ≡ sets out at (rewritten_rest at)
     blocks_refused out x e = rw (rewritten_step at, ← is, e)
 
     -- what `rewrite_block` asks of a block that was found
-    pub block_here : (b : ReportBlock) (next : Cursor) → k ≡ step.Block b next → (b.metrics_at ≡ at + 8) × (at + block_octets b.num_reports ≤ length s)
+    pub block_here : (b : ReportBlock) (next : Cursor) → k ≡ Ok (Some (b, next)) → (b.metrics_at ≡ at + 8) × (at + block_octets b.num_reports ≤ length s)
     block_here b next e =
-        let f : step_at s at ≡ step.Block b next = sym is ∙ e in
+        let f : step_at s at ≡ Ok (Some (b, next)) = sym is ∙ e in
         (ap (λ (x : ReportBlock). x.metrics_at) (found s at b next f).is, omega (arith, block_size at b next f, next_room s at b next f))
 
   -- ---- the whole packet
@@ -137,12 +133,9 @@ module _ (s : List ℕ) where
       let h = walked_sound s bs e in
       omega (arith, h.0.long, blocks_fill 8 bs h.1 (omega (arith, h.0.long)))
 
-  module _ (out : List ℕ) (k : Count) (is : k ≡ counted 0 (walk_of s)) where
-    pub rewrite_stopped : (e : Refusal) → k ≡ Stopped e → output_after (Refused e) out ≡ rewrite_of (decode_packet s) out
-    rewrite_stopped e f = rw (read_stopped s k is e f)
-
-    module _ (n : ℕ) (sound : k ≡ Blocks n) where
-      pub rewrite_short : length out < length s → output_after (Refused OutputTooShort) out ≡ rewrite_of (decode_packet s) out
+  module _ (out : List ℕ) (k : Result ℕ Refusal) (is : k ≡ counted 0 (walk_of s)) where
+    module _ (n : ℕ) (sound : k ≡ Ok n) where
+      pub rewrite_short : length out < length s → output_after (Err OutputTooShort) out ≡ rewrite_of (decode_packet s) out
       unfolding decode_packet
       rewrite_short h = blocks_walked s k is n sound (λ bs l e. rw (e, octets_read bs e) (simp (lt-ltb (length out) (length s) h)))
 
@@ -150,7 +143,7 @@ module _ (s : List ℕ) where
           → o₁ ≡ sets out 0 (packet_header (length s) (be32 s 4))
           → o₂ ≡ sets o₁ 8 (rewritten_rest 8)
           → o₃ ≡ sets o₂ (rts_at s) (octets32 (be32 s (rts_at s)))
-          → output_after (Written (length s)) o₃ ≡ rewrite_of (decode_packet s) out
+          → output_after (Ok (length s)) o₃ ≡ rewrite_of (decode_packet s) out
       unfolding decode_packet encode_packet
       rewrite_written o₁ o₂ o₃ room e₁ e₂ e₃ =
           blocks_walked s k is n sound (λ bs l e.
@@ -164,4 +157,4 @@ module _ (s : List ℕ) where
           sets_twice t (octets32 p.rts) o₁ o₂ o₃ 8 (rts_at s) (rw z at e₂) e₃ (omega (arith, h.0.long)) in
           let whole : o₃ ≡ sets out 0 (packet_header (length s) p.sender ++ (t ++ octets32 p.rts)) =
           sets_twice (packet_header (length s) p.sender) (t ++ octets32 p.rts) out o₁ o₃ 0 8 e₁ last refl in
-          rw (e, rewrite_octets p, size) (simp (le-ltb (length out) (length s) room) (ap (output_after (Written (length s))) whole)))
+          rw (e, rewrite_octets p, size) (simp (le-ltb (length out) (length s) room) (ap (output_after (Ok (length s))) whole)))

@@ -12,18 +12,11 @@ ghost use Rattle.rewriter.specs.Steps.{rewritten_from};
 
 use packet::{BLOCK_HEADER_OCTETS, PACKET_HEADER_OCTETS, RTS_OCTETS, SENDER_AT};
 use packet_header::Cursor;
-use reader::Count;
 use refusal::Refusal;
-use walk::{ReportBlock, Step};
-
-// How many octets were written, or the refusal.
-#[derive(Clone, Copy)]
-pub enum Rewriting {
-    Written(usize),
-    Refused(Refusal),
-}
+use walk::ReportBlock;
 
 // Writes a block of the packet, rewritten, to the same place of the output.
+#[tactic(auto, using(crate::proofs::Output::block_written))]
 fn rewrite_block(packet: &[u8], out: &mut [u8], at: usize, b: ReportBlock)
     requires here { b.metrics_at ≡ at + block_header_octets }
     requires held { at + block_octets b.num_reports ≤ length packet.now }
@@ -45,30 +38,20 @@ fn rewrite_blocks(packet: &[u8], out: &mut [u8], from: Cursor)
         (rewritten_from (length packet.now) packet.now from.at) }
 {
     let mut cursor = from;
-    loop {
-        let here = walk::next(cursor, packet);
-        match here {
-            Step::Block(b, next) => {
-                rewrite_block(packet, out, cursor.at, b);
-                cursor = next;
-            }
-            Step::End => return,
-            Step::Refused(_) => return,
-        }
+    while let Ok(Some((block, next))) = walk::next(cursor, packet) {
+        rewrite_block(packet, out, cursor.at, block);
+        cursor = next;
     }
 }
 
 // Writes the packet to the start of the output; its metrics with R = 0 become 0x0000.
-pub fn rewrite(packet: &[u8], out: &mut [u8]) -> Rewriting
+pub fn rewrite(packet: &[u8], out: &mut [u8]) -> Result<usize, Refusal>
     ensures after { output_after result out.new ≡ rewrite_of (decode_packet packet.now) out.old }
 {
     let size = packet.len();
-    let count = reader::count_blocks(packet);
-    if let Count::Stopped(e) = count {
-        return Rewriting::Refused(e);
-    }
+    reader::count_blocks(packet)?;
     if out.len() < size {
-        return Rewriting::Refused(Refusal::OutputTooShort);
+        return Err(Refusal::OutputTooShort);
     }
     let rts = size - RTS_OCTETS;
     packet_put::put_header(out, size, octets::get32(packet, SENDER_AT));
@@ -80,5 +63,5 @@ pub fn rewrite(packet: &[u8], out: &mut [u8]) -> Rewriting
         },
     );
     octets_put::put32(out, rts, octets::get32(packet, rts));
-    Rewriting::Written(size)
+    Ok(size)
 }

@@ -1,14 +1,13 @@
--- The laws of `emptied` and `cleared`. Assumes nothing.
+-- The laws of `emptied`. Assumes nothing.
 use Prim.Native.Nat.{ℕ, zero, suc, ◌+◌, ◌-◌, ◌%◌, ◌<◌, ◌≤◌}
 use mathlib.Core.Path.{◌≡◌, refl, ap, ◌∙◌}
 use mathlib.Core.List.{List}
 use native.Mathlib.Omega.{arith}
 use native.Mathlib.Nat.{not-suc-le-zero}
 use native.Mathlib.Decide.{ℕ_discrete, dec_lt}
-use lib.ListN.{length, get_or, set, length-set}
-use lib.Seq.{get_or-set_same, get_or-set_other, set_out, set_comm}
+use lib.ListN.{length, get_or, set, replicate, length-set}
+use lib.Seq.{sets, get_or-set_same, get_or-set_other, set_out, set_comm}
 use Rattle.ring.specs.Ring.{emptied, cells_of_a_place}
-use Rattle.ring.specs.Steps.{cleared}
 
 pub emptied_more : (words : List ℕ) (base s n : ℕ) → 0 < n → emptied words base s n ≡ emptied (set words (base + s % cells_of_a_place) 0) base (s + 1) (n - 1)
 unfolding emptied
@@ -68,34 +67,14 @@ emptied_gone (suc k) (suc i) words base s j l e b =
     emptied_gone k i (set words (base + s % cells_of_a_place) 0) base (s + 1) j (omega arith) (omega arith) (rw length-set b)
 
 -- ---- a run that does not wrap, and two runs back to back
-pub cleared_more : (words : List ℕ) (start n : ℕ) → 0 < n → cleared words start n ≡ cleared (set words start 0) (start + 1) (n - 1)
-unfolding cleared
-cleared_more words start zero l = absurd (not-suc-le-zero l)
-cleared_more words start (suc n) l =
-    let h : suc n - 1 ≡ n = omega arith in
-    rw h
-
-pub cleared_none : (words : List ℕ) (start n : ℕ) → n ≤ 0 → cleared words start n ≡ words
-unfolding cleared
-cleared_none words start n l =
-    let h : n ≡ 0 = omega arith in
-    rw h
-
--- the same at i of n, as a loop goes
-pub cleared_next : (words : List ℕ) (start n i : ℕ) → i < n
-    → cleared words (start + i) (n - i) ≡ cleared (set words (start + i) 0) (start + (i + 1)) (n - (i + 1))
-cleared_next words start n i l =
-    let a : start + i + 1 ≡ start + (i + 1) = omega arith in
-    let b : n - i - 1 ≡ n - (i + 1) = omega arith in
-    cleared_more words (start + i) (n - i) (omega arith) ∙ rw (a, b)
-
-pub emptied_run : (n : ℕ) (words : List ℕ) (base s : ℕ) → s % cells_of_a_place + n ≤ cells_of_a_place → emptied words base s n ≡ cleared words (base + s % cells_of_a_place) n
-unfolding emptied cleared
+pub emptied_run : (n : ℕ) (words : List ℕ) (base s : ℕ) → s % cells_of_a_place + n ≤ cells_of_a_place → emptied words base s n ≡ sets words (base + s % cells_of_a_place) (replicate n 0)
+unfolding emptied
 emptied_run zero words base s l = refl
 emptied_run (suc zero) words base s l = refl
 emptied_run (suc (suc n)) words base s l =
-    let h : base + (s + 1) % cells_of_a_place ≡ base + s % cells_of_a_place + 1 = omega arith in
-    rw (← h) (emptied_run (suc n) (set words (base + s % cells_of_a_place) 0) base (s + 1) (omega arith))
+    let rest = set words (base + s % cells_of_a_place) 0 in
+    let h : base + (s + 1) % cells_of_a_place ≡ suc (base + s % cells_of_a_place) = omega arith in
+    emptied_run (suc n) rest base (s + 1) (omega arith) ∙ ap (λ (j : ℕ). sets rest j (replicate (suc n) 0)) h
 
 pub emptied_append : (m n : ℕ) (words : List ℕ) (base s : ℕ) → emptied words base s (m + n) ≡ emptied (emptied words base s m) base (s + m) n
 unfolding emptied
@@ -114,7 +93,7 @@ to_wrap s = cells_of_a_place - s % cells_of_a_place
 
 -- a run that wraps
 pub emptied_wrapped : (words : List ℕ) (base s n : ℕ) → to_wrap s < n → n ≤ cells_of_a_place
-    → emptied words base s n ≡ cleared (cleared words (base + s % cells_of_a_place) (to_wrap s)) base (n - to_wrap s)
+    → emptied words base s n ≡ sets (sets words (base + s % cells_of_a_place) (replicate (to_wrap s) 0)) base (replicate (n - to_wrap s) 0)
 emptied_wrapped words base s n l h =
     let e : n ≡ to_wrap s + (n - to_wrap s) = omega arith in
     let b : base + (s + to_wrap s) % cells_of_a_place ≡ base = omega arith in

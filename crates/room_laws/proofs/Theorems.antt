@@ -6,7 +6,9 @@ use native.Mathlib.Omega.{arith}
 use lib.ListN.{length}
 use Rattle.refusal.specs.Numbers.{number_of}
 use Rattle.cutting.specs.declared.Request.{Request}
-use Rattle.sound_writer.specs.declared.Answer.{Answer}
+use Rattle.std.specs.Prelude.{Result, Ok, Err}
+use Rattle.plan_size.specs.declared.Total.{Total}
+use Rattle.refusal.specs.declared.Refusal.{Refusal}
 use Rattle.writer.specs.Written.{written}
 use Rattle.writer_laws.specs.Refused.{FirstFault, here, later, WritingGiven, in_request, too_short_of}
 use Rattle.writer_laws.proofs.Refusals.{length_octets, refusals}
@@ -15,7 +17,6 @@ use Rattle.call_laws.proofs.Numbers.{own_number}
 use Rattle.room_laws.specs.Room.{room_of_requests}
 use Rattle.room_laws.proofs.Enough.{room_enough}
 use Rattle.refusal.specs.declared.Refusal.TheVariants.{OutputTooShort}
-use Rattle.sound_writer.specs.declared.Answer.TheVariants.{Written, Refused}
 
 -- what is wrong with a request is not the output
 no_fault : (places : List ℕ) (earlier rs : List Request) → FirstFault places earlier rs OutputTooShort → ⊥
@@ -23,10 +24,10 @@ no_fault places _ _ (here f) = elim f [ ]
 no_fault places earlier rs (later p s f) = no_fault places _ _ f
 
 -- ccfb_write answers 10 only where the writer's output is too short
-answers_10 : (a : Answer) (out : List ℕ) (packets octets : ℕ)
-    → (write_called_by a out packets octets).answer ≡ number_of OutputTooShort → a ≡ Refused OutputTooShort
-answers_10 (Written p o) out packets octets h = absurd (omega arith)
-answers_10 (Refused e) out packets octets h = ap Refused (own_number e OutputTooShort h)
+answers_10 : (a : Result Total Refusal) (out : List ℕ) (packets octets : ℕ)
+    → (write_called_by a out packets octets).answer ≡ number_of OutputTooShort → a ≡ Err OutputTooShort
+answers_10 (Ok t) out packets octets h = absurd (omega arith)
+answers_10 (Err e) out packets octets h = ap Err (own_number e OutputTooShort h)
 
 module _ (places cells : List ℕ) (sender rts limit n : ℕ) (rs : List Request) (out : List ℕ) (enough : room_of_requests rs ≤ length out) where
   not_given : WritingGiven places cells sender rts limit n rs out OutputTooShort → ⊥
@@ -35,7 +36,7 @@ module _ (places cells : List ℕ) (sender rts limit n : ℕ) (rs : List Request
       absurd (omega (arith, length_octets places cells sender rts limit n rs out, room_enough limit rs h.least))
 
   -- whatever the store holds, and whatever else is asked
-  pub room_not_short : (written places cells sender rts limit n rs out).answer ≡ Refused OutputTooShort → ⊥
+  pub room_not_short : (written places cells sender rts limit n rs out).answer ≡ Err OutputTooShort → ⊥
   room_not_short e = not_given ((refusals places cells sender rts limit n rs out OutputTooShort).0 e)
 
   -- and so ccfb_write does not answer 10

@@ -2,7 +2,7 @@
 use Rattle.std.proofs.Common.{◌≡◌, ℕ, ◌+◌, ◌*◌, ◌<◌, ◌≤◌, List, [], ◌∷◌, ◌++◌, length, get_or, refl, ap, ◌∙◌, arith, length-set, get_or-set_other, get_or-set_same, le-leb}
 use borrow.Author.Tests.{lt-leb}
 use lib.Seq.{set-get_or}
-use Rattle.lists.specs.declared.Found.{Found}
+use Rattle.std.specs.Prelude.{Option, Some, None}
 use Rattle.lists.proofs.Cases.{split_le}
 use Rattle.ring.specs.Ring.{cells_of_a_place}
 use Rattle.window.specs.Number.{sequence_numbers, distance_of}
@@ -10,7 +10,6 @@ use Rattle.places.specs.Place.{highest_at, find_of}
 use Rattle.place_window.specs.Window.{cell_index, cell_at, updated}
 use Rattle.sent_word.specs.Word.{word_reported}
 use Rattle.sent_block.specs.Reports.{NumberReport, word_in_window, reported_at, reported_found, reported, all_reported}
-use Rattle.lists.specs.declared.Found.TheVariants.{At, Nothing}
 
 -- ---- the word of a cell
 
@@ -61,12 +60,12 @@ module _ (p highest rts : ℕ) (cells : List ℕ) (number metric : ℕ) where
 
 module _ (places : List ℕ) (rts : ℕ) where
   module _ (cells : List ℕ) (r : NumberReport) where
-    pub reported_held : (p : ℕ) → find_of places r.ssrc ≡ At p
+    pub reported_held : (p : ℕ) → find_of places r.ssrc ≡ Some p
         → reported places rts cells r ≡ reported_at p (highest_at places p) rts cells r.number r.metric
     unfolding reported
     reported_held p e = rw e
 
-    pub reported_none : find_of places r.ssrc ≡ Nothing → reported places rts cells r ≡ cells
+    pub reported_none : find_of places r.ssrc ≡ None → reported places rts cells r ≡ cells
     unfolding reported
     reported_none e = rw e
 
@@ -74,22 +73,22 @@ module _ (places : List ℕ) (rts : ℕ) where
     unfolding reported
     length_reported = by_place (find_of places r.ssrc)
       where
-        by_place : (f : Found) → length (reported_found f places rts cells r.number r.metric) ≡ length cells
-        by_place (At p) = length_reported_at p (highest_at places p) rts cells r.number r.metric
-        by_place Nothing = refl
+        by_place : (f : Option ℕ) → length (reported_found f places rts cells r.number r.metric) ≡ length cells
+        by_place (Some p) = length_reported_at p (highest_at places p) rts cells r.number r.metric
+        by_place None = refl
 
     -- a cell that is not that of the report's number in the place of its stream
-    pub reported_other : (i : ℕ) → ((p : ℕ) → find_of places r.ssrc ≡ At p → i ≡ cell_index p r.number → ⊥)
+    pub reported_other : (i : ℕ) → ((p : ℕ) → find_of places r.ssrc ≡ Some p → i ≡ cell_index p r.number → ⊥)
         → get_or (reported places rts cells r) i 0 ≡ get_or cells i 0
     unfolding reported
     reported_other i n = by_place (find_of places r.ssrc) refl
       where
-        by_place : (f : Found) → find_of places r.ssrc ≡ f → get_or (reported_found f places rts cells r.number r.metric) i 0 ≡ get_or cells i 0
-        by_place (At p) e = reported_at_other p (highest_at places p) rts cells r.number r.metric i (n p e)
-        by_place Nothing e = refl
+        by_place : (f : Option ℕ) → find_of places r.ssrc ≡ f → get_or (reported_found f places rts cells r.number r.metric) i 0 ≡ get_or cells i 0
+        by_place (Some p) e = reported_at_other p (highest_at places p) rts cells r.number r.metric i (n p e)
+        by_place None e = refl
 
     -- in numbers: what the window of the report's stream says of any other number stays
-    pub reported_number : (p m : ℕ) → find_of places r.ssrc ≡ At p → r.number < sequence_numbers → m < sequence_numbers
+    pub reported_number : (p m : ℕ) → find_of places r.ssrc ≡ Some p → r.number < sequence_numbers → m < sequence_numbers
         → distance_of (highest_at places p) m < cells_of_a_place → (m ≡ r.number → ⊥)
         → cell_at (reported places rts cells r) p m ≡ cell_at cells p m
     reported_number p m e l k b n =
@@ -97,7 +96,7 @@ module _ (places : List ℕ) (rts : ℕ) where
         (reported_at_number p (highest_at places p) rts cells r.number r.metric m (omega arith) l k b n)
 
     -- its own word is as the metric leaves it, where the number is in the window
-    pub reported_own : (p : ℕ) → find_of places r.ssrc ≡ At p → cells_of_a_place * p + cells_of_a_place ≤ length cells
+    pub reported_own : (p : ℕ) → find_of places r.ssrc ≡ Some p → cells_of_a_place * p + cells_of_a_place ≤ length cells
         → distance_of (highest_at places p) r.number < cells_of_a_place
         → cell_at (reported places rts cells r) p r.number ≡ word_reported r.metric rts (cell_at cells p r.number)
     unfolding updated
@@ -105,7 +104,7 @@ module _ (places : List ℕ) (rts : ℕ) where
         rw (reported_held p e, reported_at_in p (highest_at places p) rts cells r.number r.metric l)
         (get_or-set_same cells (cell_index p r.number) _ 0 (omega arith))
 
-    pub reported_past : (p : ℕ) → find_of places r.ssrc ≡ At p → cells_of_a_place ≤ distance_of (highest_at places p) r.number
+    pub reported_past : (p : ℕ) → find_of places r.ssrc ≡ Some p → cells_of_a_place ≤ distance_of (highest_at places p) r.number
         → reported places rts cells r ≡ cells
     reported_past p e l = reported_held p e ∙ reported_at_past p (highest_at places p) rts cells r.number r.metric l
 

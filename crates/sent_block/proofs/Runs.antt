@@ -1,5 +1,5 @@
 -- The numbers of a block that are in the window are entered as two runs of cells. Assumes nothing.
-use Rattle.std.proofs.Common.{◌≡◌, ℕ, zero, suc, ◌+◌, ◌-◌, ◌*◌, ◌%◌, ◌<◌, ◌≤◌, min, List, get_or, set, sym, refl, ap, ◌∙◌, add-zero, arith}
+use Rattle.std.proofs.Common.{◌≡◌, ℕ, zero, suc, ◌+◌, ◌-◌, ◌*◌, ◌%◌, ◌<◌, ◌≤◌, List, get_or, set, sym, refl, ap, ◌∙◌, add-zero, arith}
 use native.Mathlib.Nat.{sub-zero}
 use Rattle.octets.specs.Octets.{be16}
 use Rattle.ring.specs.Ring.{cells_of_a_place}
@@ -15,7 +15,7 @@ use Rattle.sent_block.proofs.Steps.{window_start, window_turn, window_end}
 
 pub run_start : (s : List ℕ) (rts at from n : ℕ) (cells : List ℕ)
     → run_entered rts cells (at + 0) (metrics_at_of s (from + 2 * 0) (n - 0)) ≡ run_entered rts cells at (metrics_at_of s from n)
-run_start s rts at from n cells = rw (sub-zero, add-zero, add-zero)
+run_start s rts at from n cells = rw (sub-zero, add-zero at, add-zero from)
 
 module _ (s : List ℕ) (rts at from n : ℕ) (cells : List ℕ) (i : ℕ) where
   pub run_turn : i < n
@@ -32,6 +32,8 @@ module _ (s : List ℕ) (rts at from n : ℕ) (cells : List ℕ) (i : ℕ) where
   pub run_done : n ≤ i → cells ≡ run_entered rts cells (at + i) (metrics_at_of s (from + 2 * i) (n - i))
   unfolding run_entered metrics_at_of
   run_done l = let none : n - i ≡ 0 = omega arith in rw none
+
+pub ruleset run_steps = (run_start, run_turn, run_done)
 
 -- ---- where count numbers of the window are cut at the end of the ring
 
@@ -51,10 +53,6 @@ pub record Cut (slot count k : ℕ) : Type 0 where
   pub room : slot + k ≤ cells_of_a_place
   pub full : k < count → slot + k ≡ cells_of_a_place
 
-pub cut_at : (p slot count k : ℕ) → slot < cells_of_a_place
-    → k ≡ min count (cells_of_a_place - (cells_of_a_place * p + slot - cells_of_a_place * p)) → Cut slot count k
-cut_at p slot count k l e = record { part = omega arith; room = omega arith; full = λ m. omega arith }
-
 module _ (p begin f count k : ℕ) (few : count ≤ cells_of_a_place) (cut : Cut ((begin + f) % cells_of_a_place) count k) where
   abbrev cell_of : ℕ → ℕ
   cell_of j = cell_index p ((begin + j) % sequence_numbers)
@@ -73,26 +71,6 @@ module _ (p begin f count k : ℕ) (few : count ≤ cells_of_a_place) (cut : Cut
 
 few_cells : (d n f count : ℕ) → f ≡ first_in_window d → f + count ≡ end_in_window d n → count ≤ cells_of_a_place
 few_cells d n f count a e = omega arith
-
-of_the_block : (d n f count : ℕ) → f + count ≡ end_in_window d n → f + count ≤ n
-of_the_block d n f count e = omega arith
-
--- both runs lie in the place, and their metrics among the n of the block
-pub record Room (p slot from f count k cells packet : ℕ) : Type 0 where
-  pub front : cells_of_a_place * p + slot + k ≤ cells
-  pub behind : cells_of_a_place * p + (count - k) ≤ cells
-  pub metrics : from + 2 * f + 2 * k ≤ packet
-  pub more : from + 2 * f + 2 * k + 2 * (count - k) ≤ packet
-
-pub room_for : (d n p slot from f count k cells packet : ℕ) → f ≡ first_in_window d → f + count ≡ end_in_window d n
-    → Cut slot count k → cells_of_a_place * p + cells_of_a_place ≤ cells → from + 2 * n ≤ packet
-    → Room p slot from f count k cells packet
-room_for d n p slot from f count k cells packet first last cut room within =
-    by_counts (few_cells d n f count first last) (of_the_block d n f count last) cut.part cut.room room within
-  where
-    by_counts : count ≤ cells_of_a_place → f + count ≤ n → k ≤ count → slot + k ≤ cells_of_a_place
-        → cells_of_a_place * p + cells_of_a_place ≤ cells → from + 2 * n ≤ packet → Room p slot from f count k cells packet
-    by_counts a b c e g h = record { front = omega arith; behind = omega arith; metrics = omega arith; more = omega arith }
 
 no_less : {a c : ℕ} → a ≡ c → a ≤ c
 no_less e = omega arith

@@ -2,7 +2,7 @@
 -- Assumes nothing.
 use Rattle.std.proofs.Common.{◌≡◌, ℕ, zero, suc, ◌+◌, ◌-◌, ◌*◌, ◌%◌, ◌<◌, ◌≤◌, List, [], ◌∷◌, sym, refl, ap, ◌∙◌, add-zero, arith}
 use native.Mathlib.Nat.{sub-zero}
-use Rattle.lists.specs.declared.Found.{Found}
+use Rattle.std.specs.Prelude.{Option, Some, None}
 use Rattle.lists.proofs.Cases.{split_le}
 use Rattle.octets.specs.Octets.{be16}
 use Rattle.ring.specs.Ring.{cells_of_a_place}
@@ -14,9 +14,8 @@ use Rattle.packet.specs.Sizes.{most_reports}
 use Rattle.reader.specs.Reading.{metrics_at_of}
 use Rattle.sent_word.specs.Word.{word_reported}
 use Rattle.sent_block.specs.Reports.{NumberReport, reports_from, reported_at, all_reported}
-use Rattle.sent_block.specs.Steps.{first_in_window, end_in_window, entered_from, block_entered, block_taken_at, block_taken}
+use Rattle.sent_block.specs.Steps.{first_in_window, end_in_window, entered_from, block_taken_at, block_taken}
 use Rattle.sent_block.proofs.Reports.{reported_at_past, reported_at_in, reported_held, reported_none}
-use Rattle.lists.specs.declared.Found.TheVariants.{At, Nothing}
 
 -- ---- the metrics of a block whose numbers are in the window
 
@@ -130,7 +129,7 @@ module _ (places : List ℕ) (rts : ℕ) where
     abbrev first : ℕ → ℕ → NumberReport
     first j m = record { ssrc = ssrc; number = (begin + j) % sequence_numbers; metric = m }
 
-    entered_held : (p : ℕ) → find_of places ssrc ≡ At p → (ms : List ℕ) (j : ℕ) (cells : List ℕ)
+    entered_held : (p : ℕ) → find_of places ssrc ≡ Some p → (ms : List ℕ) (j : ℕ) (cells : List ℕ)
         → all_reported places rts cells (reports_from ssrc begin j ms) ≡ entered_from p (highest_at places p) rts cells begin j ms
     unfolding all_reported reports_from entered_from
     entered_held p f [] j cells = refl
@@ -138,7 +137,7 @@ module _ (places : List ℕ) (rts : ℕ) where
         ap (λ (c : List ℕ). all_reported places rts c (reports_from ssrc begin (j + 1) ms)) (reported_held places rts cells (first j m) p f)
         ∙ entered_held p f ms (j + 1) (reported_at p (highest_at places p) rts cells ((begin + j) % sequence_numbers) m)
 
-    passed_over : find_of places ssrc ≡ Nothing → (ms : List ℕ) (j : ℕ) (cells : List ℕ)
+    passed_over : find_of places ssrc ≡ None → (ms : List ℕ) (j : ℕ) (cells : List ℕ)
         → all_reported places rts cells (reports_from ssrc begin j ms) ≡ cells
     unfolding all_reported reports_from
     passed_over f [] j cells = refl
@@ -151,15 +150,7 @@ module _ (places : List ℕ) (rts : ℕ) where
     unfolding block_taken
     block_reported = by_place (find_of places b.ssrc) refl
       where
-        by_place : (f : Found) → find_of places b.ssrc ≡ f
+        by_place : (f : Option ℕ) → find_of places b.ssrc ≡ f
             → all_reported places rts cells (reports_from b.ssrc b.begin 0 b.metrics) ≡ block_taken_at f places rts cells b
-        by_place (At p) e = entered_held b.ssrc b.begin p e b.metrics 0 cells
-        by_place Nothing e = passed_over b.ssrc b.begin e b.metrics 0 cells
-
-    pub taken_held : (p : ℕ) → find_of places b.ssrc ≡ At p → block_entered p (highest_at places p) rts cells b ≡ block_taken places rts cells b
-    unfolding block_taken
-    taken_held p e = rw e
-
-    pub taken_none : find_of places b.ssrc ≡ Nothing → cells ≡ block_taken places rts cells b
-    unfolding block_taken
-    taken_none e = rw e
+        by_place (Some p) e = entered_held b.ssrc b.begin p e b.metrics 0 cells
+        by_place None e = passed_over b.ssrc b.begin e b.metrics 0 cells

@@ -1,14 +1,12 @@
 -- Rules: "Sent packets", rule "Taking in". What a packet reports, number by number, and what each
 -- report makes of the cells.
-use Rattle.std.specs.Prelude.{ℕ, ◌+◌, ◌%◌, cond, List, [], ◌∷◌, ◌++◌, nat_le}
-use Rattle.lists.specs.declared.Found.{Found}
+use Rattle.std.specs.Prelude.{ℕ, ◌+◌, ◌%◌, cond, List, [], ◌∷◌, ◌++◌, nat_le, Option, Some, None}
 use Rattle.ring.specs.Ring.{cells_of_a_place}
 use Rattle.window.specs.Number.{sequence_numbers, distance_of}
 use Rattle.places.specs.Place.{highest_at, find_of}
 use Rattle.place_window.specs.Window.{updated}
 use Rattle.packet.specs.Packet.{Block}
 use Rattle.sent_word.specs.Word.{word_reported}
-use Rattle.lists.specs.declared.Found.TheVariants.{At, Nothing}
 
 -- what a packet reports of one number: its stream, the sequence number, the metric
 pub record NumberReport : Type 0 where
@@ -37,9 +35,9 @@ reported_at p highest rts cells number metric =
     updated (word_in_window (distance_of highest number) metric rts) cells p number
 
 -- a stream that no place holds is ignored
-abbrev pub reported_found : Found → List ℕ → ℕ → List ℕ → ℕ → ℕ → List ℕ
-reported_found (At p) places rts cells number metric = reported_at p (highest_at places p) rts cells number metric
-reported_found Nothing places rts cells number metric = cells
+abbrev pub reported_found : Option ℕ → List ℕ → ℕ → List ℕ → ℕ → ℕ → List ℕ
+reported_found (Some p) places rts cells number metric = reported_at p (highest_at places p) rts cells number metric
+reported_found None places rts cells number metric = cells
 
 unfoldable pub reported : List ℕ → ℕ → List ℕ → NumberReport → List ℕ
 reported places rts cells r = reported_found (find_of places r.ssrc) places rts cells r.number r.metric

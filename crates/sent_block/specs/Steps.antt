@@ -1,13 +1,11 @@
 -- The steps of the code: a block whose place is found once. No statement for a caller needs these.
-use Rattle.std.specs.Prelude.{ℕ, ◌+◌, ◌-◌, ◌%◌, min, List, [], ◌∷◌, slice_index, slice_set}
-use Rattle.lists.specs.declared.Found.{Found}
+use Rattle.std.specs.Prelude.{ℕ, ◌+◌, ◌-◌, ◌%◌, min, List, [], ◌∷◌, slice_index, slice_set, Option, Some, None}
 use Rattle.ring.specs.Ring.{cells_of_a_place}
 use Rattle.window.specs.Number.{sequence_numbers}
 use Rattle.places.specs.Place.{highest_at, find_of}
 use Rattle.packet.specs.Packet.{Block}
 use Rattle.sent_word.specs.Word.{word_reported}
 use Rattle.sent_block.specs.Reports.{reported_at}
-use Rattle.lists.specs.declared.Found.TheVariants.{At, Nothing}
 
 -- the metrics of a block whose numbers are in the window, where the highest number is d above that of
 -- metric 0: from the first up to the end, of n
@@ -31,9 +29,9 @@ run_entered rts cells at (m ∷ ms) = run_entered rts (slice_set cells at (word_
 abbrev pub block_entered : ℕ → ℕ → ℕ → List ℕ → Block → List ℕ
 block_entered p highest rts cells b = entered_from p highest rts cells b.begin 0 b.metrics
 
-abbrev pub block_taken_at : Found → List ℕ → ℕ → List ℕ → Block → List ℕ
-block_taken_at (At p) places rts cells b = block_entered p (highest_at places p) rts cells b
-block_taken_at Nothing places rts cells b = cells
+abbrev pub block_taken_at : Option ℕ → List ℕ → ℕ → List ℕ → Block → List ℕ
+block_taken_at (Some p) places rts cells b = block_entered p (highest_at places p) rts cells b
+block_taken_at None places rts cells b = cells
 
 unfoldable pub block_taken : List ℕ → ℕ → List ℕ → Block → List ℕ
 block_taken places rts cells b = block_taken_at (find_of places b.ssrc) places rts cells b

@@ -7,7 +7,7 @@ use native.Mathlib.Omega.{arith}
 use borrow.Author.Tests.{eq-eqb}
 use lib.ListN.{length}
 use Rattle.lists.specs.All.{All}
-use Rattle.lists.specs.declared.Found.{Found}
+use Rattle.std.specs.Prelude.{Option, Some, None, Ok, Err}
 use Rattle.lists.proofs.Cases.{never}
 use Rattle.lists.proofs.First.{first_true}
 use Rattle.ring.specs.Ring.{cells_of_a_place}
@@ -25,7 +25,6 @@ use Rattle.streams.proofs.Fresh.{fresh_reads}
 use Rattle.streams.proofs.Alone.{vacant_once, vacant_stream}
 use Rattle.sent_word.specs.Word.{read_word_of}
 use Rattle.sent_word.specs.declared.Status.{Status}
-use Rattle.sent_word.specs.declared.Sent.{Sent}
 use Rattle.sent_status.specs.Status.{answer_of, status_asked}
 use Rattle.sent_history.specs.Calls.{Call, CallAnswer, sender_run, sender_answers, CallInRange}
 use Rattle.sent_history.specs.Meaning.{Entry, shown_by, AsReported}
@@ -37,11 +36,7 @@ use Rattle.sent_history.proofs.Sentences.{as_reported, as_reported_once}
 use Rattle.sent_history.proofs.Stream.{run_seen}
 use Rattle.sent_history.proofs.Registrations.{by_registrations, registered_have, registered_are}
 use Rattle.sent_history.proofs.Simulation.{simulates, status_alike, shown_at_lem}
-use Rattle.lists.specs.declared.Found.TheVariants.{At, Nothing}
 use Rattle.refusal.specs.declared.Refusal.TheVariants.{NotRegistered}
-use Rattle.places.specs.declared.Holding.TheVariants.{Held}
-use Rattle.sent_word.specs.declared.Sent.TheVariants as sent
-use Rattle.sent_status.specs.declared.StatusAnswer.TheVariants as answer
 
 -- each number of a window has its full number back, and its status by it
 full_of_window : (top n : ℕ) → sequence_numbers ≤ top → n ≤ top → top < n + cells_of_a_place → full_of top (n % sequence_numbers) ≡ n
@@ -76,10 +71,10 @@ module _ (st : Store) (new : Fresh st) (cs : List Call) (range : All CallInRange
   same_status ssrc number low = status_alike after model same_reading ssrc number low
 
   -- no SSRC in two places
-  pub no_ssrc_twice : (ssrc p q h g : ℕ) → place_at after.places p ≡ Held ssrc h → place_at after.places q ≡ Held ssrc g → p ≡ q
+  pub no_ssrc_twice : (ssrc p q h g : ℕ) → place_at after.places p ≡ Some (record { ssrc = ssrc; highest = h }) → place_at after.places q ≡ Some (record { ssrc = ssrc; highest = g }) → p ≡ q
   no_ssrc_twice ssrc p q h g a b = (run_seen cs start (vacant_once Entry (length st.places))).once ssrc p q (test p h a) (test q g b)
     where
-      test : (k h : ℕ) → place_at after.places k ≡ Held ssrc h → names ssrc (at model k) ≡ true
+      test : (k h : ℕ) → place_at after.places k ≡ Some (record { ssrc = ssrc; highest = h }) → names ssrc (at model k) ≡ true
       test k h e =
           sym (named sent_meaning after.cells k (place_at after.places k) ssrc (at model k) (same_reading.each k))
           ∙ ap (is_stream ssrc) e
@@ -108,18 +103,18 @@ module _ (st : Store) (new : Fresh st) (cs : List Call) (range : All CallInRange
     status_by_history number low = same_status ssrc number low ∙ ap (λ (P : Place Entry). model_status P number) by_history
 
     -- no place holds the stream: no registration of it was accepted
-    pub not_held_lem : find_of after.places ssrc ≡ Nothing → sent_in history ≡ []
+    pub not_held_lem : find_of after.places ssrc ≡ None → sent_in history ≡ []
     not_held_lem e =
         (by_registrations ssrc history).some
-        (sym by_history ∙ ap (λ (f : Found). found_in f model) (sym (find_same sent_meaning after model same_reading ssrc) ∙ e))
+        (sym by_history ∙ ap (λ (f : Option ℕ). found_in f model) (sym (find_same sent_meaning after model same_reading ssrc) ∙ e))
 
     -- a stream that the store holds
-    module _ (p : ℕ) (found : find_of after.places ssrc ≡ At p) where
+    module _ (p : ℕ) (found : find_of after.places ssrc ≡ Some p) where
       held_there : (top' : ℕ) × ((es : List Entry) × ((at model p ≡ stream ssrc top' es) × (stream_by ssrc history ≡ stream ssrc top' es)))
       held_there =
-          let e : find_in model ssrc ≡ At p = sym (find_same sent_meaning after model same_reading ssrc) ∙ found in
+          let e : find_in model ssrc ≡ Some p = sym (find_same sent_meaning after model same_reading ssrc) ∙ found in
           let n = named_is ssrc (at model p) (first_true (λ (i : ℕ). names ssrc (at model i)) (length model) 0 p e) in
-          (n.0, (n.1.0, (n.1.1, sym by_history ∙ ap (λ (f : Found). found_in f model) e ∙ n.1.1)))
+          (n.0, (n.1.0, (n.1.1, sym by_history ∙ ap (λ (f : Option ℕ). found_in f model) e ∙ n.1.1)))
 
       -- a registration of it was accepted
       pub some_sent : sent_in history ≡ [] → ⊥
@@ -135,7 +130,7 @@ module _ (st : Store) (new : Fresh st) (cs : List Call) (range : All CallInRange
           rw (top_there, h.1.1.1) (rw h.1.1.0 at (same_reading.each p))
 
       -- its highest number is the highest of the accepted registrations
-      pub highest_by_history : place_at after.places p ≡ Held ssrc (top % sequence_numbers)
+      pub highest_by_history : place_at after.places p ≡ Some (record { ssrc = ssrc; highest = top % sequence_numbers })
       highest_by_history = held_by_history.place
 
       -- each word of the window says what was reported, sentence by sentence
@@ -143,7 +138,7 @@ module _ (st : Store) (new : Fresh st) (cs : List Call) (range : All CallInRange
       word_by_history n a b = rw (held_by_history.window n a b) (as_reported entries n)
 
       -- and the call answers with it: whatever the sentences hold of is the answer
-      pub status_as_reported : (n : ℕ) → n ≤ top → top < n + cells_of_a_place → (a : Sent) → AsReported a entries n
+      pub status_as_reported : (n : ℕ) → n ≤ top → top < n + cells_of_a_place → (a : Option Status) → AsReported a entries n
           → status_asked after.places after.cells ssrc (n % sequence_numbers) ≡ answer_of a
       status_as_reported n a b s r =
           let e = held_there.1.1.1 in
@@ -154,57 +149,57 @@ module _ (st : Store) (new : Fresh st) (cs : List Call) (range : All CallInRange
 
       -- 37 is not the answer about a number of the window exactly if an accepted registration had its full number
       pub known_if_sent : (n : ℕ) → n ≤ top → top < n + cells_of_a_place → Memᴰ n (fulls_of (sent_in history))
-          → status_asked after.places after.cells ssrc (n % sequence_numbers) ≡ answer.Refused NotRegistered → ⊥
+          → status_asked after.places after.cells ssrc (n % sequence_numbers) ≡ Err NotRegistered → ⊥
       known_if_sent n a b m h =
           let there = registered_are entries n (rw (by_registrations ssrc history).entered m) in
           (as_reported entries n).registered_if there
           (unknown (shown_by entries n) (sym (status_as_reported n a b (shown_by entries n) (as_reported entries n)) ∙ h))
         where
-          unknown : (s : Sent) → answer_of s ≡ answer.Refused NotRegistered → s ≡ sent.NotRegistered
-          unknown sent.NotRegistered e = refl
-          unknown (sent.Registered s) e = never (cc)
+          unknown : (s : Option Status) → answer_of s ≡ Err NotRegistered → s ≡ None
+          unknown None e = refl
+          unknown (Some s) e = never (cc)
 
       pub sent_if_known : (n : ℕ) → n ≤ top → top < n + cells_of_a_place → (s : Status)
-          → status_asked after.places after.cells ssrc (n % sequence_numbers) ≡ answer.Known s → Memᴰ n (fulls_of (sent_in history))
+          → status_asked after.places after.cells ssrc (n % sequence_numbers) ≡ Ok s → Memᴰ n (fulls_of (sent_in history))
       sent_if_known n a b s h =
           let shown = known (shown_by entries n) (sym (status_as_reported n a b (shown_by entries n) (as_reported entries n)) ∙ h) in
           rw (← (by_registrations ssrc history).entered) (registered_have entries n ((as_reported entries n).registered_only s shown))
         where
-          known : (x : Sent) → answer_of x ≡ answer.Known s → x ≡ sent.Registered s
-          known sent.NotRegistered e = never (cc)
-          known (sent.Registered t) e = let q : t ≡ s = cc in ap sent.Registered q
+          known : (x : Option Status) → answer_of x ≡ Ok s → x ≡ Some s
+          known None e = never (cc)
+          known (Some t) e = let q : t ≡ s = cc in ap Some q
 
     -- no registration of it was accepted: no place holds the stream
-    pub none_held : sent_in history ≡ [] → find_of after.places ssrc ≡ Nothing
+    pub none_held : sent_in history ≡ [] → find_of after.places ssrc ≡ None
     none_held e = by_search (find_of after.places ssrc) refl
       where
-        by_search : (f : Found) → find_of after.places ssrc ≡ f → f ≡ Nothing
-        by_search (At p) found = absurd (some_sent p found e)
-        by_search Nothing found = refl
+        by_search : (f : Option ℕ) → find_of after.places ssrc ≡ f → f ≡ None
+        by_search (Some p) found = absurd (some_sent p found e)
+        by_search None found = refl
 
 -- two fresh stores with the same history of a stream say the same of it
 module _ (st st' : Store) (new : Fresh st) (new' : Fresh st') (cs cs' : List Call) (range : All CallInRange cs) (range' : All CallInRange cs')
     (ssrc : ℕ) (same : history_of ssrc cs (sender_answers st cs) ≡ history_of ssrc cs' (sender_answers st' cs')) where
-  not_held_too : find_of (sender_run st cs).places ssrc ≡ Nothing → find_of (sender_run st' cs').places ssrc ≡ Nothing
+  not_held_too : find_of (sender_run st cs).places ssrc ≡ None → find_of (sender_run st' cs').places ssrc ≡ None
   not_held_too e = none_held st' new' cs' range' ssrc (ap sent_in (sym same) ∙ not_held_lem st new cs range ssrc e)
 
   held_too : (p highest : ℕ) → HeldAt (sender_run st cs).places ssrc p highest → (q : ℕ) × HeldAt (sender_run st' cs').places ssrc q highest
   held_too p highest H = by_search (find_of (sender_run st' cs').places ssrc) refl
     where
-      found : find_of (sender_run st cs).places ssrc ≡ At p
+      found : find_of (sender_run st cs).places ssrc ≡ Some p
       found = (held_found (sender_run st cs).places ssrc p highest H).0
 
-      by_search : (f : Found) → find_of (sender_run st' cs').places ssrc ≡ f → (q : ℕ) × HeldAt (sender_run st' cs').places ssrc q highest
-      by_search (At q) e =
+      by_search : (f : Option ℕ) → find_of (sender_run st' cs').places ssrc ≡ f → (q : ℕ) × HeldAt (sender_run st' cs').places ssrc q highest
+      by_search (Some q) e =
           let here = highest_by_history st new cs range ssrc p found in
           let there = highest_by_history st' new' cs' range' ssrc q e in (
             q,
             record {
-              holds = there ∙ ap (λ (hs : List Happened). Held ssrc (top_of (sent_in hs) % sequence_numbers)) (sym same) ∙ sym here ∙ H.holds;
+              holds = there ∙ ap (λ (hs : List Happened). Some (record { ssrc = ssrc; highest = top_of (sent_in hs) % sequence_numbers })) (sym same) ∙ sym here ∙ H.holds;
               first = (found_held (sender_run st' cs').places ssrc q e).first;
             },
           )
-      by_search Nothing e =
+      by_search None e =
           absurd (some_sent st new cs range ssrc p found (ap sent_in same ∙ not_held_lem st' new' cs' range' ssrc e))
 
   pub same_stream : SameStream (sender_run st cs) (sender_run st' cs') ssrc

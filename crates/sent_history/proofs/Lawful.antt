@@ -5,7 +5,8 @@ use Rattle.metric.specs.Metric.{decode_of}
 use Rattle.streams.specs.Reading.{Lawful, Enters}
 use Rattle.sent_word.specs.Status.{status_of, after_registering, after_report}
 use Rattle.sent_word.specs.Word.{registered_word, word_reported}
-use Rattle.sent_word.specs.declared.Sent.{Sent}
+use Rattle.std.specs.Prelude.{Option}
+use Rattle.sent_word.specs.declared.Status.{Status}
 use Rattle.sent_word.proofs.Words.{read_zero, read_registered, read_reported}
 use Rattle.sent_history.specs.Meaning.{was_registered, was_reported, entry_of, events_of, shown_of}
 use Rattle.sent_history.specs.Reading.{sent_meaning}
@@ -26,5 +27,5 @@ register_enters n word es e =
 pub report_enters : (m rts n : ℕ) → Enters sent_meaning (word_reported m rts) (entry_of (was_reported (decode_of m) rts) n)
 report_enters m rts n word es e =
     read_reported m rts word
-    ∙ ap (λ (s : Sent). after_report s (status_of (decode_of m) rts)) e
+    ∙ ap (λ (s : Option Status). after_report s (status_of (decode_of m) rts)) e
     ∙ sym (ap shown_of (events_same es (entry_of (was_reported (decode_of m) rts) n) n refl) ∙ shown_reported (events_of es n) (decode_of m) rts)

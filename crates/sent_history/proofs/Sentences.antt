@@ -11,12 +11,11 @@ use Rattle.lists.proofs.Cases.{never}
 use Rattle.metric.specs.declared.Metric.{Metric}
 use Rattle.sent_word.specs.Status.{status_of, is_received}
 use Rattle.sent_word.specs.declared.Status.{Status}
-use Rattle.sent_word.specs.declared.Sent.{Sent}
+use Rattle.std.specs.Prelude.{Option, Some, None}
 use Rattle.sent_history.specs.Meaning.{Event, was_registered, was_reported, Entry, entry_of, events_of, shown_of, shown_by}
 use Rattle.sent_history.specs.Meaning.{since_first, statuses_of, any_received, last_of, since_of, NoneReceived, AsReported}
 use Rattle.sent_history.proofs.Events.{said}
 use Rattle.sent_word.specs.declared.Status.TheVariants.{NotReported, Missing}
-use Rattle.sent_word.specs.declared.Sent.TheVariants.{NotRegistered, Registered}
 
 -- ---- the events of n are those of its entries
 events_have : (es : List Entry) (event : Event) (n : ℕ) → Memᴰ (entry_of event n) es → Memᴰ event (events_of es n)
@@ -46,18 +45,18 @@ events_are (x ∷ es) event n m = picked (eqb x.full n) refl m (λ h. Memᴰ.tai
     picked false e m rest = rest m
 
 -- ---- registered, by the events
-some_registered : (es : List Event) (s : Status) → shown_of es ≡ Registered s → Memᴰ was_registered es
+some_registered : (es : List Event) (s : Status) → shown_of es ≡ Some s → Memᴰ was_registered es
 some_registered [] s h = never (cc)
 some_registered (was_registered ∷ es) s h = Memᴰ.head refl
 some_registered (was_reported m rts ∷ es) s h = Memᴰ.tail (some_registered es s h)
 
-none_registered : (es : List Event) → shown_of es ≡ NotRegistered → Memᴰ was_registered es → ⊥
+none_registered : (es : List Event) → shown_of es ≡ None → Memᴰ was_registered es → ⊥
 none_registered [] h m = Memᴰ.not-nil m
 none_registered (was_registered ∷ es) h m = never (cc)
 none_registered (was_reported x rts ∷ es) h m =
     ⊎_elim {C = ⊥} (λ q. never (cc)) (λ q. none_registered es h q) (Memᴰ.cases_cons m)
 
-since_registered : (es : List Event) (s : Status) → shown_of es ≡ Registered s → s ≡ last_of (statuses_of (since_first es))
+since_registered : (es : List Event) (s : Status) → shown_of es ≡ Some s → s ≡ last_of (statuses_of (since_first es))
 since_registered [] s h = never (cc)
 since_registered (was_registered ∷ es) s h = cc
 since_registered (was_reported m rts ∷ es) s h = since_registered es s h
@@ -150,8 +149,8 @@ cases_of (was_registered ∷ es) = cases_registered es (cases_of es)
 cases_of (was_reported m rts ∷ es) = cases_reported m rts es (cases_of es)
 
 -- two that are as reported are the same
-module _ (es : List Entry) (n : ℕ) (a b : Sent) (A : AsReported a es n) (B : AsReported b es n) where
-  same_status : (s t : Status) → a ≡ Registered s → b ≡ Registered t → Cases (since_of es n) → s ≡ t
+module _ (es : List Entry) (n : ℕ) (a b : Option Status) (A : AsReported a es n) (B : AsReported b es n) where
+  same_status : (s t : Status) → a ≡ Some s → b ≡ Some t → Cases (since_of es n) → s ≡ t
   same_status s t p q (lastly before m rts after e r none) =
       A.last_received s m rts before after p e r none ∙ sym (B.last_received t m rts before after q e r none)
   same_status s t p q (never_received m rts z none) = A.missing s m rts p z none ∙ sym (B.missing t m rts q z none)
@@ -160,8 +159,8 @@ module _ (es : List Entry) (n : ℕ) (a b : Sent) (A : AsReported a es n) (B : A
   pub as_reported_once : a ≡ b
   as_reported_once = by a b refl refl
     where
-      by : (x y : Sent) → a ≡ x → b ≡ y → x ≡ y
-      by NotRegistered NotRegistered p q = refl
-      by NotRegistered (Registered t) p q = absurd (A.registered_if (B.registered_only t q) p)
-      by (Registered s) NotRegistered p q = absurd (B.registered_if (A.registered_only s p) q)
-      by (Registered s) (Registered t) p q = ap Registered (same_status s t p q (cases_of (since_of es n)))
+      by : (x y : Option Status) → a ≡ x → b ≡ y → x ≡ y
+      by None None p q = refl
+      by None (Some t) p q = absurd (A.registered_if (B.registered_only t q) p)
+      by (Some s) None p q = absurd (B.registered_if (A.registered_only s p) q)
+      by (Some s) (Some t) p q = ap Some (same_status s t p q (cases_of (since_of es n)))

@@ -8,7 +8,9 @@ use native.Mathlib.Decide.{dec_le, dec_lt}
 use borrow.Author.Tests.{le-leb, lt-leb}
 use lib.ListN.{length, get_or}
 use Rattle.lists.specs.All.{All}
-use Rattle.lists.specs.declared.Found.{Found}
+use Rattle.std.specs.Prelude.{Option, Result, Some, None, Ok, Err}
+use Rattle.sent_word.specs.declared.Status.{Status}
+use Rattle.refusal.specs.declared.Refusal.{Refusal}
 use Rattle.lists.proofs.All.{all_join}
 use Rattle.lists.proofs.First.{first_true}
 use Rattle.metric.specs.Metric.{decode_of}
@@ -32,17 +34,13 @@ use Rattle.sent_block.proofs.Reports.{reported_at_past, reported_at_in}
 use Rattle.sent_feedback.specs.TakeIn.{taken_as_of}
 use Rattle.sent_status.specs.Status.{answer_of, status_at, asked_at, status_asked}
 use Rattle.sent_status.proofs.Calls.{status_past, status_within}
-use Rattle.sent_status.specs.declared.StatusAnswer.{StatusAnswer}
 use Rattle.sent_history.specs.Calls.{Call, register, take_in, to_registration, to_taking_in, sender_step, sender_answer, sender_run, sender_answers, CallInRange}
 use Rattle.sent_history.specs.Meaning.{Entry, was_registered, was_reported, entry_of, shown_by}
 use Rattle.sent_history.specs.Model.{note_report, note_all, model_taken, model_step, model_answer}
 use Rattle.sent_history.specs.Model.{model_run, model_answers, shown_at, model_status, model_asked}
 use Rattle.sent_history.specs.Reading.{sent_meaning}
 use Rattle.sent_history.proofs.Lawful.{shown_lawful, register_enters, report_enters}
-use Rattle.lists.specs.declared.Found.TheVariants.{At, Nothing}
 use Rattle.refusal.specs.declared.Refusal.TheVariants.{NotRegistered}
-use Rattle.sent_register.specs.declared.Registration.TheVariants as registration
-use Rattle.sent_status.specs.declared.StatusAnswer.TheVariants as answer
 
 -- ---- one report
 abbrev with : Store → List ℕ → Store
@@ -56,14 +54,14 @@ report_alike : (st : Store) (ps : List (Place Entry)) → Reads sent_meaning st 
 unfolding reported
 report_alike st ps R rts r low = by (find_of st.places r.ssrc) refl
   where
-    by : (f : Found) → find_of st.places r.ssrc ≡ f
+    by : (f : Option ℕ) → find_of st.places r.ssrc ≡ f
         → Reads sent_meaning (with st (reported_found f st.places rts st.cells r.number r.metric)) (note_report rts ps r)
-    by (At k) e =
+    by (Some k) e =
         note_alike sent_meaning shown_lawful st ps R (word_reported r.metric rts) (entry_of (was_reported (decode_of r.metric) rts)) (λ n. refl)
         (report_enters r.metric rts) r.ssrc r.number low k e (reported_at k (highest_at st.places k) rts st.cells r.number r.metric)
         (reported_at_in k (highest_at st.places k) rts st.cells r.number r.metric)
         (reported_at_past k (highest_at st.places k) rts st.cells r.number r.metric)
-    by Nothing e =
+    by None e =
         note_lost sent_meaning shown_lawful st ps R (word_reported r.metric rts) (entry_of (was_reported (decode_of r.metric) rts)) (λ n. refl)
         (report_enters r.metric rts) r.ssrc r.number low e
 
@@ -96,7 +94,7 @@ module _ (st : Store) (ps : List (Place Entry)) (R : Reads sent_meaning st ps) w
   call_alike : (c : Call) → CallInRange c → (sender_answer st c ≡ model_answer ps c) × Reads sent_meaning (sender_step st c) (model_step ps c)
   call_alike (register ssrc number) r =
       let a = admit_alike sent_meaning shown_lawful st ps R registered_word (entry_of was_registered) (λ n. refl) register_enters
-      ssrc number r.1 registration.Accepted registration.Refused r.0 in
+      ssrc number r.1 (Ok tt) Err r.0 in
       rw (shaped_is st.places st.cells R.shape) (ap to_registration a.answer, a.reads)
   call_alike (take_in s) r =
       let t = taken_alike (decode_packet s) in
@@ -109,21 +107,21 @@ simulates cs r st ps R =
 
 -- ---- the status of a number
 module _ (top full : ℕ) (es : List Entry) where
-  abbrev within : Bool → StatusAnswer
-  within old = cond old (answer.Refused NotRegistered) (answer_of (shown_by es full))
+  abbrev within : Bool → Result Status Refusal
+  within old = cond old (Err NotRegistered) (answer_of (shown_by es full))
 
-  abbrev unless : Bool → StatusAnswer
-  unless behind = cond behind (within (is_too_old top full)) (answer.Refused NotRegistered)
+  abbrev unless : Bool → Result Status Refusal
+  unless behind = cond behind (within (is_too_old top full)) (Err NotRegistered)
 
   pub shown_at_lem : full ≤ top → top < full + cells_of_a_place → shown_at top full es ≡ answer_of (shown_by es full)
   unfolding shown_at
   shown_at_lem a b = ap unless (le-leb full top a) ∙ ap within (not_too_old top full b)
 
-  shown_ahead : top < full → shown_at top full es ≡ answer.Refused NotRegistered
+  shown_ahead : top < full → shown_at top full es ≡ Err NotRegistered
   unfolding shown_at
   shown_ahead a = ap unless (lt-leb full top a)
 
-  shown_old : full + cells_of_a_place ≤ top → shown_at top full es ≡ answer.Refused NotRegistered
+  shown_old : full + cells_of_a_place ≤ top → shown_at top full es ≡ Err NotRegistered
   unfolding shown_at
   shown_old a = ap unless (le-leb full top (omega arith)) ∙ ap within (too_old_lem top full a)
 
@@ -158,8 +156,8 @@ module _ (st : Store) (ps : List (Place Entry)) (R : Reads sent_meaning st ps) (
   pub status_alike : status_asked st.places st.cells ssrc number ≡ model_asked ps ssrc number
   status_alike = rw (shaped_is st.places st.cells R.shape, find_same sent_meaning st ps R ssrc) (by (find_in ps ssrc) refl)
     where
-      by : (f : Found) → find_in ps ssrc ≡ f → asked_at f st.places st.cells number ≡ model_status (found_in f ps) number
-      by (At k) e =
+      by : (f : Option ℕ) → find_in ps ssrc ≡ f → asked_at f st.places st.cells number ≡ model_status (found_in f ps) number
+      by (Some k) e =
           let n = named_is ssrc (at ps k) (first_true (λ (i : ℕ). names ssrc (at ps i)) (length ps) 0 k e) in
           rw n.1.1 (status_held k n.0 n.1.0 n.1.1)
-      by Nothing e = refl
+      by None e = refl

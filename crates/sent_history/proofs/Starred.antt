@@ -17,7 +17,9 @@ use Rattle.reader.specs.Reading.{metrics_at_of, decode_packet}
 use Rattle.streams.specs.Full.{full_of}
 use Rattle.streams.specs.Model.{noted_at, later_at, vacant}
 use Rattle.sent_block.specs.Reports.{reports_from, reports_of}
-use Rattle.sent_status.specs.declared.StatusAnswer.{StatusAnswer}
+use Rattle.std.specs.Prelude.{Result}
+use Rattle.sent_word.specs.declared.Status.{Status}
+use Rattle.refusal.specs.declared.Refusal.{Refusal}
 use Rattle.sent_history.specs.Calls.{Call, register, take_in, CallInRange}
 use Rattle.sent_history.specs.Meaning.{events_of}
 use Rattle.sent_history.specs.Model.{model_run, note_all, shown_at, model_asked}
@@ -47,7 +49,7 @@ all_in_range (take_in s ∷ cs) e = (tt, all_in_range cs e)
 test_of : Case → Bool
 test_of c = in_range (register ssrc c.number ∷ c.calls)
 
-says : Case → StatusAnswer
+says : Case → Result Status Refusal
 says c = model_asked (model_run (vacant 1) c.calls) ssrc c.number
 
 holds : (c : Case) → test_of c ≡ true → says c ≡ c.answer → CaseHolds c

@@ -11,13 +11,13 @@ use Rattle.reader.specs.Reading.{Decoded, packet, refused, decode_packet}
 use Rattle.streams.specs.Model.{Place, ModelAfter, stream_in}
 use Rattle.streams.specs.Alone.{Once, Only, Admitted, entered, kept}
 use Rattle.streams.proofs.Alone.{admitted_as, noted_only}
-use Rattle.sent_register.specs.declared.Registration.{Registration}
+use Rattle.std.specs.Prelude.{Result, Ok, Err}
+use Rattle.refusal.specs.declared.Refusal.{Refusal}
 use Rattle.sent_block.specs.Reports.{NumberReport, reports_of}
 use Rattle.sent_history.specs.Calls.{Call, register, take_in, to_registration}
 use Rattle.sent_history.specs.Meaning.{Entry, entry_of, was_registered, was_reported}
 use Rattle.sent_history.specs.Model.{model_registered, note_report, note_all, model_taken, model_step, model_answer, model_run, model_answers}
 use Rattle.sent_history.specs.Stream.{Happened, sent, heard, heard_in, heard_as, happened_by, history_of, stream_after, stream_from}
-use Rattle.sent_register.specs.declared.Registration.TheVariants as registration
 
 from_join : (ssrc : ℕ) (hs js : List Happened) (P : Place Entry) → stream_from ssrc P (hs ++ js) ≡ stream_from ssrc (stream_from ssrc P hs) js
 unfolding stream_from
@@ -84,7 +84,7 @@ taken_seen (refused e) ps once = none_seen ps once
 -- ---- a registration
 module _ (ps : List (Place Entry)) (once : Once ps) (x number : ℕ) where
   -- an accepted one is one that happened to x, and a refused one did not happen
-  registered_seen : (o : ModelAfter Entry Registration) → Admitted (entry_of was_registered) registration.Accepted registration.Refused ps x number o
+  registered_seen : (o : ModelAfter Entry (Result (Unit {0}) Refusal)) → Admitted (entry_of was_registered) (Ok tt) Err ps x number o
       → Seen ps o.places (λ (y : ℕ). happened_by y (register x number) (to_registration o.answer))
   registered_seen o (entered ps' only) = one_seen ps once x (sent number) ps' only
   registered_seen o (kept e) = none_seen ps once
@@ -92,7 +92,7 @@ module _ (ps : List (Place Entry)) (once : Once ps) (x number : ℕ) where
 -- ---- every list of calls
 call_seen : (c : Call) (ps : List (Place Entry)) → Once ps → Seen ps (model_step ps c) (λ (y : ℕ). happened_by y c (model_answer ps c))
 call_seen (register x number) ps once =
-    registered_seen ps once x number (model_registered ps x number) (admitted_as (entry_of was_registered) ps once x number registration.Accepted registration.Refused)
+    registered_seen ps once x number (model_registered ps x number) (admitted_as (entry_of was_registered) ps once x number (Ok tt) Err)
 call_seen (take_in s) ps once = taken_seen (decode_packet s) ps once
 
 pub run_seen : (cs : List Call) (ps : List (Place Entry)) → Once ps → Seen ps (model_run ps cs) (λ (y : ℕ). history_of y cs (model_answers ps cs))

@@ -1,13 +1,12 @@
 -- Rules: "What a sender's store means". The calls that change a sender's store, in the order in
 -- which they are made, and the answers to them.
-use Rattle.std.specs.Prelude.{ℕ, ◌<◌, ◌^◌, List}
+use Rattle.std.specs.Prelude.{ℕ, ◌<◌, ◌^◌, List, Result}
 use Rattle.window.specs.Number.{sequence_numbers}
 use Rattle.streams.specs.Reading.{Store}
 use Rattle.streams.specs.Runs.{run, answers}
 use Rattle.sent_register.specs.Register.{registered}
-use Rattle.sent_register.specs.declared.Registration.{Registration}
+use Rattle.refusal.specs.declared.Refusal.{Refusal}
 use Rattle.sent_feedback.specs.TakeIn.{taken_in}
-use Rattle.sent_feedback.specs.declared.TakingIn.{TakingIn}
 
 -- register: SSRC, sequence number. take_in: the octets of a packet
 pub data Call : Type 0 where
@@ -15,8 +14,8 @@ pub data Call : Type 0 where
   take_in : List ℕ → Call
 
 pub data CallAnswer : Type 0 where
-  to_registration : Registration → CallAnswer
-  to_taking_in : TakingIn → CallAnswer
+  to_registration : Result (Unit {0}) Refusal → CallAnswer
+  to_taking_in : Result (Unit {0}) Refusal → CallAnswer
 
 abbrev pub sender_step : Store → Call → Store
 sender_step st (register ssrc number) =

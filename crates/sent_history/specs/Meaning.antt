@@ -1,13 +1,11 @@
 -- Rules: "What a sender's store means". What is known of a full number, by what happened to it in
 -- the order of the calls: no cell, no word.
-use Rattle.std.specs.Prelude.{ℕ, Bool, true, false, cond, ◌||◌, ◌≡◌, eqb}
+use Rattle.std.specs.Prelude.{ℕ, Bool, true, false, cond, ◌||◌, ◌≡◌, eqb, Option, Some, None}
 use mathlib.Core.List.{List, [], ◌∷◌, ◌++◌, Memᴰ}
 use Rattle.metric.specs.declared.Metric.{Metric}
 use Rattle.sent_word.specs.Status.{status_of, is_received}
 use Rattle.sent_word.specs.declared.Status.{Status}
-use Rattle.sent_word.specs.declared.Sent.{Sent}
 use Rattle.sent_word.specs.declared.Status.TheVariants.{NotReported, Missing}
-use Rattle.sent_word.specs.declared.Sent.TheVariants.{NotRegistered, Registered}
 
 -- it was registered, or a packet with that RTS had that metric for it
 pub data Event : Type 0 where
@@ -50,13 +48,13 @@ last_of [] = NotReported
 last_of (s ∷ ss) = cond (any_received ss) (last_of ss) s
 
 -- what is known by the events of a number: what was reported before its first registration was ignored
-abbrev pub shown_of : List Event → Sent
-shown_of [] = NotRegistered
-shown_of (was_registered ∷ es) = Registered (last_of (statuses_of es))
+abbrev pub shown_of : List Event → Option Status
+shown_of [] = None
+shown_of (was_registered ∷ es) = Some (last_of (statuses_of es))
 shown_of (was_reported m rts ∷ es) = shown_of es
 
 -- what the entries say of the full number n
-abbrev pub shown_by : List Entry → ℕ → Sent
+abbrev pub shown_by : List Entry → ℕ → Option Status
 shown_by es n = shown_of (events_of es n)
 
 -- the events of n behind its first registration
@@ -68,16 +66,16 @@ abbrev pub NoneReceived : List Event → Type 0
 NoneReceived es = (m : Metric) (rts : ℕ) → Memᴰ (was_reported m rts) es → is_received (status_of m rts) ≡ false
 
 -- the same as `shown_by`, rule by rule
-pub record AsReported (a : Sent) (es : List Entry) (n : ℕ) : Type 0 where
+pub record AsReported (a : Option Status) (es : List Entry) (n : ℕ) : Type 0 where
   -- registered exactly if a registration had the full number
-  pub registered_if : Memᴰ (entry_of was_registered n) es → a ≡ NotRegistered → ⊥
-  pub registered_only : (s : Status) → a ≡ Registered s → Memᴰ (entry_of was_registered n) es
+  pub registered_if : Memᴰ (entry_of was_registered n) es → a ≡ None → ⊥
+  pub registered_only : (s : Status) → a ≡ Some s → Memᴰ (entry_of was_registered n) es
   -- the last "received" since then
   pub last_received : (s : Status) (m : Metric) (rts : ℕ) (before after : List Event)
-      → a ≡ Registered s → since_of es n ≡ before ++ (was_reported m rts ∷ after) → is_received (status_of m rts) ≡ true → NoneReceived after
+      → a ≡ Some s → since_of es n ≡ before ++ (was_reported m rts ∷ after) → is_received (status_of m rts) ≡ true → NoneReceived after
       → s ≡ status_of m rts
   -- else missing, if anything was reported since
-  pub missing : (s : Status) (m : Metric) (rts : ℕ) → a ≡ Registered s → Memᴰ (was_reported m rts) (since_of es n) → NoneReceived (since_of es n)
+  pub missing : (s : Status) (m : Metric) (rts : ℕ) → a ≡ Some s → Memᴰ (was_reported m rts) (since_of es n) → NoneReceived (since_of es n)
       → s ≡ Missing
   -- else not reported yet
-  pub unreported : (s : Status) → a ≡ Registered s → ((m : Metric) (rts : ℕ) → Memᴰ (was_reported m rts) (since_of es n) → ⊥) → s ≡ NotReported
+  pub unreported : (s : Status) → a ≡ Some s → ((m : Metric) (rts : ℕ) → Memᴰ (was_reported m rts) (since_of es n) → ⊥) → s ≡ NotReported

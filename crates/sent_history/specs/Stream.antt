@@ -1,6 +1,6 @@
 -- Rules: "What a sender's store means", rule "History of a sent stream". A stream by itself: what
 -- its own accepted registrations and the reports on it make of it, whatever comes for others.
-use Rattle.std.specs.Prelude.{ℕ, cond, ◌≡◌, List, [], ◌∷◌, ◌++◌, eqb, leb}
+use Rattle.std.specs.Prelude.{ℕ, cond, ◌≡◌, List, [], ◌∷◌, ◌++◌, eqb, leb, Ok, Err}
 use Rattle.metric.specs.Metric.{decode_of}
 use Rattle.metric.specs.declared.Metric.{Metric}
 use Rattle.reader.specs.Reading.{Decoded, packet, refused, decode_packet}
@@ -10,7 +10,6 @@ use Rattle.streams.specs.Alone.{next_full, with_one, noted_by}
 use Rattle.sent_block.specs.Reports.{NumberReport, reports_of}
 use Rattle.sent_history.specs.Calls.{Call, register, take_in, CallAnswer, to_registration, to_taking_in}
 use Rattle.sent_history.specs.Meaning.{Event, Entry, entry_of, was_registered, was_reported}
-use Rattle.sent_register.specs.declared.Registration.TheVariants as registration
 
 -- what happened to a stream: a sequence number was registered; a packet reported one
 pub data Happened : Type 0 where
@@ -30,8 +29,8 @@ heard_as ssrc (refused e) = []
 
 -- what one call with its answer adds; the answer to taking in is none to a registration
 abbrev pub happened_by : ℕ → Call → CallAnswer → List Happened
-happened_by ssrc (register x number) (to_registration registration.Accepted) = cond (eqb x ssrc) (sent number ∷ []) []
-happened_by ssrc (register x number) (to_registration (registration.Refused e)) = []
+happened_by ssrc (register x number) (to_registration (Ok tt)) = cond (eqb x ssrc) (sent number ∷ []) []
+happened_by ssrc (register x number) (to_registration (Err e)) = []
 happened_by ssrc (register x number) (to_taking_in t) = []
 happened_by ssrc (take_in s) a = heard_as ssrc (decode_packet s)
 

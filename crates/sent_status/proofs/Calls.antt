@@ -11,13 +11,12 @@ use Rattle.places.specs.Shape.{shaped}
 use Rattle.place_window.specs.Window.{cell_at}
 use Rattle.sent_word.specs.Word.{read_word_of}
 use Rattle.sent_status.specs.Status.{answer_of, status_at, status_asked}
-use Rattle.lists.specs.declared.Found.TheVariants.{At, Nothing}
+use Rattle.std.specs.Prelude.{Some, None, Err}
 use Rattle.refusal.specs.declared.Refusal.TheVariants.{BadStore, NotHeld, NotRegistered}
-use Rattle.sent_status.specs.declared.StatusAnswer.TheVariants.{Refused}
 
 -- of the number that is b behind the highest one
 module _ (cells : List ℕ) (p number b : ℕ) where
-  pub status_past : cells_of_a_place ≤ b → status_at cells p number b ≡ Refused NotRegistered
+  pub status_past : cells_of_a_place ≤ b → status_at cells p number b ≡ Err NotRegistered
   unfolding status_at
   status_past l = rw (le-leb cells_of_a_place b l)
 
@@ -26,13 +25,13 @@ module _ (cells : List ℕ) (p number b : ℕ) where
   status_within l = rw (lt-leb cells_of_a_place b l)
 
 module _ (places cells : List ℕ) (ssrc number : ℕ) where
-  pub asked_misshapen : shaped places cells ≡ false → Refused BadStore ≡ status_asked places cells ssrc number
+  pub asked_misshapen : shaped places cells ≡ false → Err BadStore ≡ status_asked places cells ssrc number
   asked_misshapen s = rw s
 
   module _ (s : shaped places cells ≡ true) where
-    pub asked_held : (p : ℕ) → find_of places ssrc ≡ At p
+    pub asked_held : (p : ℕ) → find_of places ssrc ≡ Some p
         → status_at cells p number (distance_of (highest_at places p) number) ≡ status_asked places cells ssrc number
     asked_held p f = rw (s, f)
 
-    pub asked_not_held : find_of places ssrc ≡ Nothing → Refused NotHeld ≡ status_asked places cells ssrc number
+    pub asked_not_held : find_of places ssrc ≡ None → Err NotHeld ≡ status_asked places cells ssrc number
     asked_not_held f = rw (s, f)

@@ -4,23 +4,23 @@ use Rattle.lists.proofs.Cases.{split_le, split_eq}
 use Rattle.metric.specs.Metric.{received_bit}
 use Rattle.sent_word.specs.Word.{not_registered, not_reported, missing, kind_of, held_status, read_word_of, registered_word, received_word, word_reported}
 use Rattle.sent_word.specs.declared.Status.TheVariants.{NotReported, Missing}
-use Rattle.sent_word.specs.declared.Sent.TheVariants.{NotRegistered, Registered}
+use Rattle.std.specs.Prelude.{Some, None}
 
 module _ (word : ℕ) where
-  pub read_none : kind_of word ≡ not_registered → read_word_of word ≡ NotRegistered
+  pub read_none : kind_of word ≡ not_registered → read_word_of word ≡ None
   unfolding read_word_of
   read_none e = rw (eq-eqb (kind_of word) not_registered e)
 
-  pub read_not_reported : kind_of word ≡ not_reported → read_word_of word ≡ Registered NotReported
+  pub read_not_reported : kind_of word ≡ not_reported → read_word_of word ≡ Some NotReported
   unfolding read_word_of
   read_not_reported e = rw (ne_eqb (kind_of word) not_registered (λ f. omega arith), eq-eqb (kind_of word) not_reported e)
 
-  pub read_missing : kind_of word ≡ missing → read_word_of word ≡ Registered Missing
+  pub read_missing : kind_of word ≡ missing → read_word_of word ≡ Some Missing
   unfolding read_word_of
   read_missing e =
       rw (ne_eqb (kind_of word) not_registered (λ f. omega arith), ne_eqb (kind_of word) not_reported (λ f. omega arith), eq-eqb (kind_of word) missing e)
 
-  pub read_received : missing < kind_of word → read_word_of word ≡ Registered (held_status word)
+  pub read_received : missing < kind_of word → read_word_of word ≡ Some (held_status word)
   unfolding read_word_of
   read_received l =
       rw (ne_eqb (kind_of word) not_registered (λ f. omega arith), ne_eqb (kind_of word) not_reported (λ f. omega arith), ne_eqb (kind_of word) missing (λ f. omega arith))

@@ -4,8 +4,7 @@ use borrow.Author.Tests.{lt-leb}
 use Rattle.lists.proofs.Cases.{split_le}
 use Rattle.metric.specs.Metric.{times, offset_unit, longest_age, after_rts, age_of, seen_at_age, seen_of}
 use Rattle.sent_word.specs.Status.{arrival_time, status_of}
-use Rattle.metric.specs.declared.Time.TheVariants.{Known}
-use Rattle.metric.specs.declared.Cell.TheVariants.{Filled}
+use Rattle.std.specs.Prelude.{Some}
 use Rattle.sent_word.specs.declared.Status.TheVariants.{Received}
 
 -- what is left of an age when whole units of the offset are taken off
@@ -31,7 +30,7 @@ arrival_near rts t r l =
 
 -- so of an arrival that is reported with an offset, a sender knows the mark, and the time but for those units
 pub status_near : (mark rts t : ℕ) → rts < times → t < times → age_of rts t ≤ longest_age
-    → status_of (seen_of (Filled mark (Known t)) rts) rts ≡ Received (mark % 4) ((t + age_of rts t % offset_unit) % times)
+    → status_of (seen_of (Some (record { mark = mark; time = Some t })) rts) rts ≡ Received (mark % 4) ((t + age_of rts t % offset_unit) % times)
 unfolding seen_at_age
 status_near mark rts t r l a =
     rw (lt-leb after_rts (age_of rts t) (omega arith), le-ltb longest_age (age_of rts t) a) (ap (Received (mark % 4)) (arrival_near rts t r l))

@@ -12,7 +12,7 @@ use Rattle.sent_word.proofs.ByKind.{registered_new, registered_again, reported_n
 use Rattle.metric.specs.declared.Metric.TheVariants as metric
 use Rattle.sent_word.specs.declared.Status.{Status}
 use Rattle.sent_word.specs.declared.Status.TheVariants.{NotReported, Missing, Received}
-use Rattle.sent_word.specs.declared.Sent.TheVariants.{NotRegistered, Registered}
+use Rattle.std.specs.Prelude.{Some, None}
 
 -- ---- a received word is read back
 
@@ -91,7 +91,7 @@ received_kind metric rts = omega arith
 
 -- ---- a registration
 
-pub read_zero : read_word_of 0 ≡ NotRegistered
+pub read_zero : read_word_of 0 ≡ None
 read_zero = read_none 0 refl
 
 pub read_registered : (word : ℕ) → read_word_of (registered_word word) ≡ after_registering (read_word_of word)
@@ -136,8 +136,8 @@ module _ (word metric rts : ℕ) (known : kind_of word ≡ not_registered → �
       (λ e. rw (read_missing word e) (replaces Missing))
       (λ h. rw (read_received word h) (replaces (held_status word))))
     where
-      replaces : (held : Status) → Registered (status_of (decode_of metric) rts) ≡ Registered (reported_over held (status_of (decode_of metric) rts))
-      replaces held = ap Registered (sym (received_replaces held (status_of (decode_of metric) rts) (says_received metric rts l)))
+      replaces : (held : Status) → Some (status_of (decode_of metric) rts) ≡ Some (reported_over held (status_of (decode_of metric) rts))
+      replaces held = ap Some (sym (received_replaces held (status_of (decode_of metric) rts) (says_received metric rts l)))
 
   missing_over : metric < received_bit → read_word_of (word_reported metric rts word) ≡ after_report (read_word_of word) (status_of (decode_of metric) rts)
   missing_over l =

@@ -3,13 +3,11 @@
 --   word % 4             0 not registered, 1 not reported yet, 2 missing, 3 received
 --   word / 2^16 % 2^15   if received: ECN mark and ATO, as in the metric
 --   word / 2^32          if received: RTS of the packet that reported it
-use Rattle.std.specs.Prelude.{ℕ, ◌+◌, ◌*◌, ◌/◌, ◌%◌, ◌^◌, cond, ◌==◌, nat_lt}
+use Rattle.std.specs.Prelude.{ℕ, ◌+◌, ◌*◌, ◌/◌, ◌%◌, ◌^◌, cond, ◌==◌, nat_lt, Option, Some, None}
 use Rattle.metric.specs.Metric.{times, received_bit, decode_of}
 use Rattle.sent_word.specs.Status.{status_of}
 use Rattle.sent_word.specs.declared.Status.{Status}
-use Rattle.sent_word.specs.declared.Sent.{Sent}
 use Rattle.sent_word.specs.declared.Status.TheVariants.{NotReported, Missing}
-use Rattle.sent_word.specs.declared.Sent.TheVariants.{NotRegistered, Registered}
 
 -- ---- the fields of a word
 
@@ -53,11 +51,11 @@ held_rts word = word / rts_unit % times
 unfoldable pub held_status : ℕ → Status
 held_status word = status_of (decode_of (held_metric word)) (held_rts word)
 
-unfoldable pub read_word_of : ℕ → Sent
+unfoldable pub read_word_of : ℕ → Option Status
 read_word_of word =
-    cond (kind_of word == not_registered) NotRegistered
-    (cond (kind_of word == not_reported) (Registered NotReported)
-    (cond (kind_of word == missing) (Registered Missing) (Registered (held_status word))))
+    cond (kind_of word == not_registered) None
+    (cond (kind_of word == not_reported) (Some NotReported)
+    (cond (kind_of word == missing) (Some Missing) (Some (held_status word))))
 
 -- ---- a registration, and a report
 

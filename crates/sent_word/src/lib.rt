@@ -18,13 +18,6 @@ pub enum Status {
     NoTime { mark: u8 },
 }
 
-// What is known of a number of the window.
-#[derive(Clone, Copy)]
-pub enum Sent {
-    NotRegistered,
-    Registered(Status),
-}
-
 // A word has one of four kinds: NOT_REGISTERED, NOT_REPORTED, MISSING or RECEIVED.
 const KINDS: u64 = 4;
 
@@ -45,7 +38,7 @@ const RTS_UNIT: u64 = 0x1_0000_0000;
 fn arrival_time(rts: u32, offset: u16) -> u32
     ensures value { result ≡ arrival_time rts offset }
 {
-    std::num::wrapping_sub_u32(rts, OFFSET_UNIT * (offset as u32))
+    rts.wrapping_sub(OFFSET_UNIT * (offset as u32))
 }
 
 // What a metric says of its number, in a packet with that RTS.
@@ -64,6 +57,7 @@ pub fn status_of(m: Metric, rts: u32) -> Status
 }
 
 // What a received word says.
+#[tactic(auto, unfolding(crate::specs::Word::held_status))]
 fn held_status(word: u64) -> Status
     ensures value { result ≡ held_status word }
 {
@@ -74,23 +68,25 @@ fn held_status(word: u64) -> Status
 
 // What a cell's word says.
 // The last test is by the lowest bit on purpose: tests for each kind are compiled to a table of jumps.
-pub fn read_word(word: u64) -> Sent
+#[tactic(auto, unfolding(crate::specs::Word::read_word_of))]
+pub fn read_word(word: u64) -> Option<Status>
     ensures value { result ≡ read_word_of word }
 {
     let kind = word % KINDS;
     if kind == NOT_REGISTERED {
-        return Sent::NotRegistered;
+        return None;
     }
     if kind == RECEIVED {
-        return Sent::Registered(held_status(word));
+        return Some(held_status(word));
     }
     if word % 2 == NOT_REPORTED {
-        return Sent::Registered(Status::NotReported);
+        return Some(Status::NotReported);
     }
-    Sent::Registered(Status::Missing)
+    Some(Status::Missing)
 }
 
 // A cell's word after its number was registered: what was reported stays.
+#[tactic(auto, unfolding(crate::specs::Word::registered_word))]
 pub fn registered_word(word: u64) -> u64
     ensures value { result ≡ registered_word word }
 {
@@ -102,6 +98,7 @@ pub fn registered_word(word: u64) -> u64
 }
 
 // The word of a number that was reported received.
+#[tactic(auto, unfolding(crate::specs::Word::received_word))]
 fn received_word(metric: u16, rts: u32) -> u64
     ensures value { result ≡ received_word metric rts }
 {
@@ -111,6 +108,7 @@ fn received_word(metric: u16, rts: u32) -> u64
 // A cell's word after a metric of its number, in a packet with that RTS.
 // Branch-free on purpose: over many metrics these branches are unpredictable and cost time. The parts are computed and
 // then chosen, so that a loop over cells that lie side by side becomes vector code.
+#[tactic(auto, unfolding(crate::specs::Word::word_reported))]
 pub fn word_reported(word: u64, metric: u16, rts: u32) -> u64
     ensures value { result ≡ word_reported metric rts word }
 {

@@ -7,7 +7,7 @@ use lib.ListN.{length}
 use lib.Seq.{sets}
 use borrow.Author.Tests.{lt-ltb, le-ltb}
 use Rattle.lists.specs.All.{All}
-use Rattle.lists.specs.declared.Found.{Found}
+use Rattle.std.specs.Prelude.{Option, Ok}
 use Rattle.lists.proofs.All.{all_left, all_right}
 use Rattle.octets.specs.Output.{output_after}
 use Rattle.cutting.specs.Cutting.{CutPacket, Cutting, all_blocks, numbers_from, stream_of}
@@ -23,7 +23,6 @@ use Rattle.blocks.specs.Steps.{metric_found}
 use Rattle.sound_writer.specs.Put.{writing_refused, put_packets}
 use Rattle.refusal.specs.declared.Refusal.TheVariants.{OutputTooShort}
 use Rattle.packet.specs.Packet as packet
-use Rattle.sound_writer.specs.declared.Answer.TheVariants.{Written}
 
 -- ---- the metrics at the places that were found are those of the streams
 
@@ -46,7 +45,7 @@ pub found_packets : (places cells found : List ℕ) (sender rts limit : ℕ) (rs
     → FoundAll places rs found
     → map (report_packet (metric_found cells rts found) rs sender rts) (plan limit rs) ≡ packets_for places cells sender rts limit rs
 found_packets places cells found sender rts limit rs l f =
-    let metric : Found → ℕ → ℕ = λ x s. store_metric_at x cells rts s in
+    let metric : Option ℕ → ℕ → ℕ = λ x s. store_metric_at x cells rts s in
     same_packets rs (metric_found cells rts found) (λ i. store_metric places cells rts (stream_of rs i))
     (λ i h. ap metric (sym (f i h))) sender rts (plan limit rs) (plan_known limit rs l)
 
@@ -58,6 +57,6 @@ module _ (c : Cutting) (ps : List packet.Packet) (out : List ℕ) (r : Total) (m
   put_short h = rw (lt-ltb (length out) (total_octets c) (omega (arith, m.octets)))
 
   pub put_whole : (qs : List packet.Packet) (exit : List ℕ) → r.octets ≤ length out → qs ≡ ps → exit ≡ sets out 0 (encode_packets qs)
-      → output_after (Written r.packets r.octets) exit ≡ put_packets c ps out
+      → output_after (Ok (record { packets = r.packets; octets = r.octets })) exit ≡ put_packets c ps out
   unfolding put_packets
   put_whole qs exit h f e = rw (le-ltb (length out) (total_octets c) (omega (arith, m.octets)), m.packets, m.octets, e, f)

@@ -8,7 +8,7 @@ use native.Mathlib.Decide.{dec_le, dec_lt}
 use lib.ListN.{length, get_or, set, length-set}
 use lib.Seq.{get_or-set_same, get_or-set_other}
 use Rattle.lists.specs.All.{All}
-use Rattle.lists.specs.declared.Found.{Found}
+use Rattle.std.specs.Prelude.{Option, Some, None}
 use Rattle.lists.proofs.First.{first_true}
 use Rattle.lists.proofs.All.{all_append, all_map}
 use Rattle.refusal.specs.declared.Refusal.{Refusal}
@@ -29,9 +29,7 @@ use Rattle.streams.specs.Reading.{Store, Meaning, Lawful, Enters, Holds, Reads}
 use Rattle.streams.proofs.Numbers.{full_ahead, full_behind, full_low}
 use Rattle.streams.proofs.Cells.{length_updated, updated_away, length_newest, newest_away, silent_above, newest_reads, updated_reads}
 use Rattle.streams.proofs.Places.{named_is, vacant_is, later_old, later_in, added_to, noted_ahead, noted_old, noted_in_lem, find_same, free_same, there_in, replaced}
-use Rattle.lists.specs.declared.Found.TheVariants.{At, Nothing}
 use Rattle.window.specs.declared.Move.TheVariants as move
-use Rattle.places.specs.declared.Holding.TheVariants.{Held}
 
 in_and_below : (x m : ℕ) → x < m + cells_of_a_place → m + cells_of_a_place ≤ x → ⊥
 in_and_below x m a b = omega arith
@@ -99,7 +97,7 @@ module _ {E C : Type 0} (M : Meaning E C) where
             place =
                 ap read_place (get_or-set_same st.places k (place_word ssrc number) 0 there)
                 ∙ read_word ssrc number ssrcLow numberLow
-                ∙ ap (λ (x : ℕ). Held ssrc x) (sym low);
+                ∙ ap (λ (x : ℕ). Some (record { ssrc = ssrc; highest = x })) (sym low);
             window =
                 entered (newest_emptied st.cells k number n) full full es (rw (length_newest st.cells k number n) room) low
                 (omega arith) (omega arith)
@@ -157,7 +155,7 @@ module _ {E C : Type 0} (M : Meaning E C) where
             ]
 
     -- a search of the store that finds the stream
-    found_named : (k : ℕ) → find_of st.places ssrc ≡ At k
+    found_named : (k : ℕ) → find_of st.places ssrc ≡ Some k
         → (k < length st.places) × ((top : ℕ) × ((es : List E) × (at ps k ≡ stream ssrc top es)))
     found_named k found =
         let e = sym (find_same M st ps R ssrc) ∙ found in (
@@ -167,7 +165,7 @@ module _ {E C : Type 0} (M : Meaning E C) where
 
     -- something noted of a number of a stream: cells that are changed where it is in the window, and there alone, read as
     -- the machine then says
-    pub note_alike : (k : ℕ) → find_of st.places ssrc ≡ At k → (cells' : List ℕ)
+    pub note_alike : (k : ℕ) → find_of st.places ssrc ≡ Some k → (cells' : List ℕ)
         → (distance_of (highest_at st.places k) number < cells_of_a_place → cells' ≡ updated f st.cells k number)
         → (cells_of_a_place ≤ distance_of (highest_at st.places k) number → cells' ≡ st.cells)
         → Reads M (record { places = st.places; cells = cells' }) (noted entry ps ssrc number)
@@ -177,7 +175,7 @@ module _ {E C : Type 0} (M : Meaning E C) where
         (note_at k n.0 n.1.0 n.1.1.0 n.1.1.1 cells' inside outside)
 
     -- and where no place holds the stream, nothing changes
-    pub note_lost : find_of st.places ssrc ≡ Nothing → Reads M st (noted entry ps ssrc number)
+    pub note_lost : find_of st.places ssrc ≡ None → Reads M st (noted entry ps ssrc number)
     note_lost lost = rw (sym (find_same M st ps R ssrc) ∙ lost) R
 
     module _ {A : Type 0} (accepted : A) (refused : Refusal → A) (ssrcLow : ssrc < 2 ^ 32) where
@@ -257,7 +255,7 @@ module _ {E C : Type 0} (M : Meaning E C) where
 
         -- a new stream
         started_alike : at ps k ≡ free
-            → Alike (moved accepted refused f st.places st.cells k ssrc number cells_of_a_place) (started_in accepted refused entry (At k) ps ssrc number)
+            → Alike (moved accepted refused f st.places st.cells k ssrc number cells_of_a_place) (started_in accepted refused entry (Some k) ps ssrc number)
         unfolding moved
         started_alike vacancy =
             let same : max 0 (first_full number) ≡ first_full number = omega arith in
@@ -268,19 +266,19 @@ module _ {E C : Type 0} (M : Meaning E C) where
                   (λ m x y z. absurd (in_and_below (first_full number) m y z)) (λ m x y. laws.silent [] m tt) tt tt;
             })
 
-      found_alike : (g : Found) → find_in ps ssrc ≡ g
+      found_alike : (g : Option ℕ) → find_in ps ssrc ≡ g
           → Alike (admitted_at accepted refused f g st.places st.cells ssrc number) (admitted_in accepted refused entry g ps ssrc number)
-      found_alike (At k) e =
+      found_alike (Some k) e =
           let n = named_is ssrc (at ps k) (first_true (λ (i : ℕ). names ssrc (at ps i)) (length ps) 0 k e) in
           rw n.1.1 (later_alike k (there_in M st ps R (λ (i : ℕ). names ssrc (at ps i)) k e) n.0 n.1.0 n.1.1)
-      found_alike Nothing e = rw (free_same M st ps R) (opened (vacant_in ps) refl)
+      found_alike None e = rw (free_same M st ps R) (opened (vacant_in ps) refl)
         where
-          opened : (g : Found) → vacant_in ps ≡ g
+          opened : (g : Option ℕ) → vacant_in ps ≡ g
               → Alike (started_at accepted refused f g st.places st.cells ssrc number) (started_in accepted refused entry g ps ssrc number)
-          opened (At k) v =
+          opened (Some k) v =
               started_alike k (there_in M st ps R (λ (i : ℕ). is_vacant (at ps i)) k v)
               (vacant_is (at ps k) (first_true (λ (i : ℕ). is_vacant (at ps i)) (length ps) 0 k v))
-          opened Nothing v = record { answer = refl; reads = R }
+          opened None v = record { answer = refl; reads = R }
 
       -- a number that moves its stream's window on
       pub admit_alike : Alike (admitted_at accepted refused f (find_of st.places ssrc) st.places st.cells ssrc number)

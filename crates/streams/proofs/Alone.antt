@@ -7,7 +7,7 @@ use native.Mathlib.Omega.{arith}
 use native.Mathlib.Decide.{dec_le}
 use borrow.Author.Tests.{le-leb, lt-leb, eq-eqb, eqb-true}
 use lib.ListN.{length, set}
-use Rattle.lists.specs.declared.Found.{Found}
+use Rattle.std.specs.Prelude.{Option, Some, None}
 use Rattle.lists.proofs.First.{first_below, first_true}
 use Rattle.refusal.specs.declared.Refusal.{Refusal}
 use Rattle.ring.specs.Ring.{cells_of_a_place}
@@ -19,7 +19,6 @@ use Rattle.streams.proofs.Numbers.{too_old_lem, not_too_old}
 use Rattle.streams.proofs.Places.{named_is, vacant_is, later_old, later_in, noted_ahead, noted_old, noted_in_lem}
 use Rattle.streams.proofs.Fresh.{vacant_at}
 use Rattle.streams.proofs.Once.{names_one, stream_none, lost, set_once, set_other, set_same, set_none}
-use Rattle.lists.specs.declared.Found.TheVariants.{At, Nothing}
 use Rattle.refusal.specs.declared.Refusal.TheVariants.{NoFreePlace, TooOld}
 
 -- free places hold no stream
@@ -53,13 +52,13 @@ module _ {E : Type 0} where
       }
 
     -- it is the place of the stream, or a free one where no place holds it
-    pub found_only : (k : ℕ) → find_in ps x ≡ At k → (P : Place E) → ((y : ℕ) → names y P ≡ true → y ≡ x) → Only ps x (set ps k P) P
+    pub found_only : (k : ℕ) → find_in ps x ≡ Some k → (P : Place E) → ((y : ℕ) → names y P ≡ true → y ≡ x) → Only ps x (set ps k P) P
     found_only k e =
         let t = first_true (λ (i : ℕ). names x (at ps i)) (length ps) 0 k e in
         let b = first_below (λ (i : ℕ). names x (at ps i)) (length ps) 0 k e in
         set_only k (omega arith) (λ y h. names_one (at ps k) y x h t) (λ i h. once x i k h t)
 
-    vacant_only : (k : ℕ) → find_in ps x ≡ Nothing → vacant_in ps ≡ At k → (P : Place E) → ((y : ℕ) → names y P ≡ true → y ≡ x)
+    vacant_only : (k : ℕ) → find_in ps x ≡ None → vacant_in ps ≡ Some k → (P : Place E) → ((y : ℕ) → names y P ≡ true → y ≡ x)
         → Only ps x (set ps k P) P
     vacant_only k e v =
         let b = first_below (λ (i : ℕ). is_vacant (at ps i)) (length ps) 0 k v in
@@ -67,8 +66,8 @@ module _ {E : Type 0} where
         set_only k (omega arith) (λ y h. absurd (false≢true (sym (ap (names y) n) ∙ h))) (λ i h. absurd (lost ps x e i h))
 
     -- the stream that a search found
-    found_stream : (f : Found) → find_in ps x ≡ f → stream_in ps x ≡ found_in f ps
-    found_stream f e = ap (λ (g : Found). found_in g ps) e
+    found_stream : (f : Option ℕ) → find_in ps x ≡ f → stream_in ps x ≡ found_in f ps
+    found_stream f e = ap (λ (g : Option ℕ). found_in g ps) e
 
   module _ (entry : ℕ → E) where
     names_own : (x : ℕ) (P : Place E) (full y : ℕ) → names y (with_one entry x P full) ≡ true → y ≡ x
@@ -78,10 +77,10 @@ module _ {E : Type 0} where
       pub noted_only : Only ps x (noted entry ps x number) (noted_by entry x (stream_in ps x) number)
       noted_only = by_search (find_in ps x) refl
         where
-          at_place : (k top : ℕ) (es : List E) → find_in ps x ≡ At k → at ps k ≡ stream x top es
+          at_place : (k top : ℕ) (es : List E) → find_in ps x ≡ Some k → at ps k ≡ stream x top es
               → Only ps x (noted_at entry ps k x (full_of top number)) (noted_by entry x (stream x top es) number)
           at_place k top es e held =
-              let same : Only ps x ps (stream x top es) = rw (← held, ← found_stream ps once x (At k) e) (same_only ps once x) in
+              let same : Only ps x ps (stream x top es) = rw (← held, ← found_stream ps once x (Some k) e) (same_only ps once x) in
               elim (dec_le (full_of top number) top) [
                 | yes l ↦
                     elim (dec_le (full_of top number + cells_of_a_place) top) [
@@ -107,20 +106,20 @@ module _ {E : Type 0} where
                     rw (lt-leb (full_of top number) top h, noted_ahead entry ps k x (full_of top number) (rw held h)) same
               ]
 
-          by_search : (f : Found) → find_in ps x ≡ f → Only ps x (noted_in entry f ps x number) (noted_by entry x (found_in f ps) number)
-          by_search (At k) e =
+          by_search : (f : Option ℕ) → find_in ps x ≡ f → Only ps x (noted_in entry f ps x number) (noted_by entry x (found_in f ps) number)
+          by_search (Some k) e =
               let n = named_is x (at ps k) (first_true (λ (i : ℕ). names x (at ps i)) (length ps) 0 k e) in
               rw n.1.1 (at_place k n.0 n.1.0 e n.1.1)
-          by_search Nothing e = rw (← found_stream ps once x Nothing e) (same_only ps once x)
+          by_search None e = rw (← found_stream ps once x None e) (same_only ps once x)
 
       module _ {A : Type 0} (accepted : A) (refused : Refusal → A) where
         pub admitted_as : Admitted entry accepted refused ps x number (admitted accepted refused entry ps x number)
         admitted_as = by_search (find_in ps x) refl
           where
-            at_place : (k top : ℕ) (es : List E) → find_in ps x ≡ At k → at ps k ≡ stream x top es
+            at_place : (k top : ℕ) (es : List E) → find_in ps x ≡ Some k → at ps k ≡ stream x top es
                 → Admitted entry accepted refused ps x number (later_at accepted refused entry ps k x (full_of top number))
             at_place k top es e held =
-                let s : stream_in ps x ≡ stream x top es = found_stream ps once x (At k) e ∙ held in
+                let s : stream_in ps x ≡ stream x top es = found_stream ps once x (Some k) e ∙ held in
                 elim (dec_le (full_of top number + cells_of_a_place) top) [
                   | yes h ↦ rw (later_old entry ps k x (full_of top number) accepted refused (rw held h)) (kept TooOld)
                   | no h ↦
@@ -130,17 +129,17 @@ module _ {E : Type 0} where
                       (rw s (found_only ps once x k e (with_one entry x (stream x top es) (full_of top number)) (names_own x (stream x top es) (full_of top number)))))
                 ]
 
-            opened : (f : Found) → vacant_in ps ≡ f → find_in ps x ≡ Nothing → Admitted entry accepted refused ps x number (started_in accepted refused entry f ps x number)
-            opened (At k) v e =
+            opened : (f : Option ℕ) → vacant_in ps ≡ f → find_in ps x ≡ None → Admitted entry accepted refused ps x number (started_in accepted refused entry f ps x number)
+            opened (Some k) v e =
                 let n : at ps k ≡ free = vacant_is (at ps k) (first_true (λ (i : ℕ). is_vacant (at ps i)) (length ps) 0 k v) in
                 rw n
                 (entered (set ps k (with_one entry x free (first_full number)))
-                (rw (found_stream ps once x Nothing e)
+                (rw (found_stream ps once x None e)
                 (vacant_only ps once x k e v (with_one entry x free (first_full number)) (names_own x free (first_full number)))))
-            opened Nothing v e = kept NoFreePlace
+            opened None v e = kept NoFreePlace
 
-            by_search : (f : Found) → find_in ps x ≡ f → Admitted entry accepted refused ps x number (admitted_in accepted refused entry f ps x number)
-            by_search (At k) e =
+            by_search : (f : Option ℕ) → find_in ps x ≡ f → Admitted entry accepted refused ps x number (admitted_in accepted refused entry f ps x number)
+            by_search (Some k) e =
                 let n = named_is x (at ps k) (first_true (λ (i : ℕ). names x (at ps i)) (length ps) 0 k e) in
                 rw n.1.1 (at_place k n.0 n.1.0 e n.1.1)
-            by_search Nothing e = opened (vacant_in ps) refl e
+            by_search None e = opened (vacant_in ps) refl e

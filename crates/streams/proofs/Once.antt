@@ -8,11 +8,10 @@ use native.Mathlib.Decide.{ℕ_discrete, dec_lt}
 use borrow.Author.Tests.{eqb-true}
 use lib.ListN.{length, set, get_or-eq_default}
 use lib.Seq.{get_or-set_same, get_or-set_other}
-use Rattle.lists.specs.declared.Found.{Found}
+use Rattle.std.specs.Prelude.{Option, Some, None}
 use Rattle.lists.proofs.First.{first_true, first_false}
 use Rattle.streams.specs.Model.{Place, free, stream, names, at, find_in, found_in, stream_in}
 use Rattle.streams.specs.Alone.{Once}
-use Rattle.lists.specs.declared.Found.TheVariants.{At, Nothing}
 
 module _ {E : Type 0} where
   -- a place past the end names nothing
@@ -34,21 +33,21 @@ module _ {E : Type 0} where
     pub stream_none : ((k : ℕ) → names x (at ps k) ≡ true → ⊥) → stream_in ps x ≡ free
     stream_none n = by (find_in ps x) refl
       where
-        by : (f : Found) → find_in ps x ≡ f → found_in f ps ≡ free
-        by (At k) e = absurd (n k (first_true (λ (i : ℕ). names x (at ps i)) (length ps) 0 k e))
-        by Nothing e = refl
+        by : (f : Option ℕ) → find_in ps x ≡ f → found_in f ps ≡ free
+        by (Some k) e = absurd (n k (first_true (λ (i : ℕ). names x (at ps i)) (length ps) 0 k e))
+        by None e = refl
 
     stream_at : Once ps → (k : ℕ) → names x (at ps k) ≡ true → stream_in ps x ≡ at ps k
     stream_at once k t = by (find_in ps x) refl
       where
-        by : (f : Found) → find_in ps x ≡ f → found_in f ps ≡ at ps k
-        by (At j) e = ap (at ps) (once x j k (first_true (λ (i : ℕ). names x (at ps i)) (length ps) 0 j e) t)
-        by Nothing e =
+        by : (f : Option ℕ) → find_in ps x ≡ f → found_in f ps ≡ at ps k
+        by (Some j) e = ap (at ps) (once x j k (first_true (λ (i : ℕ). names x (at ps i)) (length ps) 0 j e) t)
+        by None e =
             let l = named_there ps x k t in
             absurd (false≢true (sym (first_false (λ (i : ℕ). names x (at ps i)) (length ps) 0 k e (omega arith) (omega arith)) ∙ t))
 
     -- the search that finds nothing
-    pub lost : find_in ps x ≡ Nothing → (k : ℕ) → names x (at ps k) ≡ true → ⊥
+    pub lost : find_in ps x ≡ None → (k : ℕ) → names x (at ps k) ≡ true → ⊥
     lost e k t =
         let l = named_there ps x k t in
         false≢true (sym (first_false (λ (i : ℕ). names x (at ps i)) (length ps) 0 k e (omega arith) (omega arith)) ∙ t)
@@ -81,12 +80,12 @@ module _ {E : Type 0} where
     pub set_other : (y : ℕ) → (y ≡ x → ⊥) → stream_in (set ps k P) y ≡ stream_in ps y
     set_other y n = by (find_in ps y) refl
       where
-        by : (f : Found) → find_in ps y ≡ f → stream_in (set ps k P) y ≡ found_in f ps
-        by (At j) e =
+        by : (f : Option ℕ) → find_in ps y ≡ f → stream_in (set ps k P) y ≡ found_in f ps
+        by (Some j) e =
             let t = first_true (λ (i : ℕ). names y (at ps i)) (length ps) 0 j e in
             let a : j ≡ k → ⊥ = (λ q. n (was y (rw q at t))) in
             stream_at (set ps k P) y set_once j (rw (elsewhere j a) t) ∙ elsewhere j a
-        by Nothing e =
+        by None e =
             stream_none (set ps k P) y
             (λ i t. elim (ℕ_discrete i k) [ yes q ↦ n (named_here y (rw q at t)) | no q ↦ lost ps y e i (rw (elsewhere i q) at t) ])
 

@@ -14,12 +14,12 @@ use Rattle.lists.proofs.First.{first_cong, first_below}
 use Rattle.refusal.specs.declared.Refusal.{Refusal}
 use Rattle.ring.specs.Ring.{cells_of_a_place}
 use Rattle.places.specs.Place.{read_place, place_at, is_stream, is_free, find_of, free_of}
-use Rattle.places.specs.declared.Holding.{Holding}
+use Rattle.std.specs.Prelude.{Option, Some}
+use Rattle.places.specs.declared.Stream.{Stream}
 use Rattle.place_window.specs.Window.{cell_at}
 use Rattle.streams.specs.Model.{Place, free, stream, model_after, names, is_vacant, highest_in, entries_in, at, find_in, vacant_in, added_at, noted_at, later_at}
 use Rattle.streams.specs.Reading.{Store, Meaning, ReadsAt, Reads}
 use Rattle.streams.proofs.Numbers.{too_old_lem, not_too_old}
-use Rattle.lists.specs.declared.Found.TheVariants.{At}
 use Rattle.refusal.specs.declared.Refusal.TheVariants.{TooOld}
 
 -- ---- what a search of the machine finds
@@ -66,7 +66,7 @@ module _ {E : Type 0} (entry : ℕ → E) (ps : List (Place E)) (k ssrc full : �
 
 -- ---- a store that reads as the machine says
 module _ {E C : Type 0} (M : Meaning E C) where
-  module _ (cells : List ℕ) (k : ℕ) (h : Holding) where
+  module _ (cells : List ℕ) (k : ℕ) (h : Option Stream) where
     pub named : (ssrc : ℕ) (P : Place E) → ReadsAt M cells k h P → is_stream ssrc h ≡ names ssrc P
     named ssrc free r = rw r
     named ssrc (stream x top es) r = rw r.place
@@ -76,7 +76,7 @@ module _ {E C : Type 0} (M : Meaning E C) where
     freed (stream x top es) r = rw r.place
 
   -- what is read alike stays so where neither the place nor its cells change
-  away : (cells cells' : List ℕ) (q : ℕ) (h h' : Holding) (P : Place E) → h' ≡ h → ((m : ℕ) → cell_at cells' q m ≡ cell_at cells q m)
+  away : (cells cells' : List ℕ) (q : ℕ) (h h' : Option Stream) (P : Place E) → h' ≡ h → ((m : ℕ) → cell_at cells' q m ≡ cell_at cells q m)
       → ReadsAt M cells q h P → ReadsAt M cells' q h' P
   away cells cells' q h h' free e c r = e ∙ r
   away cells cells' q h h' (stream x top es) e c r = record {
@@ -101,7 +101,7 @@ module _ {E C : Type 0} (M : Meaning E C) where
         (λ k. freed st.cells k (place_at st.places k) (at ps k) (R.each k)))
 
     -- a place that a search of the machine found is one of the store
-    pub there_in : (test : ℕ → Bool) (k : ℕ) → first_from test 0 (length ps) ≡ At k → k < length st.places
+    pub there_in : (test : ℕ → Bool) (k : ℕ) → first_from test 0 (length ps) ≡ Some k → k < length st.places
     there_in test k e = let l = first_below test (length ps) 0 k e in let c = R.count in omega arith
 
     -- the place k changes, and no other

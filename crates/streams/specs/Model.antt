@@ -3,10 +3,9 @@
 -- its highest full number and its entries in their order, whatever an entry is.
 use Rattle.std.specs.Prelude.{ℕ, max, Bool, true, false, cond, List, [], ◌∷◌, ◌++◌, length, get_or, set, replicate, eqb, leb}
 use Rattle.lists.specs.First.{first_from}
-use Rattle.lists.specs.declared.Found.{Found}
+use Rattle.std.specs.Prelude.{Option, Some, None}
 use Rattle.refusal.specs.declared.Refusal.{Refusal}
 use Rattle.streams.specs.Full.{full_of, first_full, is_too_old}
-use Rattle.lists.specs.declared.Found.TheVariants.{At, Nothing}
 use Rattle.refusal.specs.declared.Refusal.TheVariants.{NoFreePlace, TooOld}
 
 pub data Place (E : Type 0) : Type 0 where
@@ -42,16 +41,16 @@ module _ {E : Type 0} where
   at ps k = get_or ps k free
 
   -- the place of a stream, and the lowest free place
-  abbrev pub find_in : List (Place E) → ℕ → Found
+  abbrev pub find_in : List (Place E) → ℕ → Option ℕ
   find_in ps ssrc = first_from (λ (k : ℕ). names ssrc (at ps k)) 0 (length ps)
 
-  abbrev pub vacant_in : List (Place E) → Found
+  abbrev pub vacant_in : List (Place E) → Option ℕ
   vacant_in ps = first_from (λ (k : ℕ). is_vacant (at ps k)) 0 (length ps)
 
   -- what the place that was found holds; nothing where none was
-  abbrev pub found_in : Found → List (Place E) → Place E
-  found_in (At k) ps = at ps k
-  found_in Nothing ps = free
+  abbrev pub found_in : Option ℕ → List (Place E) → Place E
+  found_in (Some k) ps = at ps k
+  found_in None ps = free
 
   abbrev pub stream_in : List (Place E) → ℕ → Place E
   stream_in ps ssrc = found_in (find_in ps ssrc) ps
@@ -74,9 +73,9 @@ module _ {E : Type 0} (entry : ℕ → E) where
       (cond (is_too_old (highest_in (at ps k)) full) ps (added_at ps k ssrc full))
       ps
 
-  abbrev pub noted_in : Found → List (Place E) → ℕ → ℕ → List (Place E)
-  noted_in (At k) ps ssrc number = noted_at ps k ssrc (full_of (highest_in (at ps k)) number)
-  noted_in Nothing ps ssrc number = ps
+  abbrev pub noted_in : Option ℕ → List (Place E) → ℕ → ℕ → List (Place E)
+  noted_in (Some k) ps ssrc number = noted_at ps k ssrc (full_of (highest_in (at ps k)) number)
+  noted_in None ps ssrc number = ps
 
   -- a stream that no place holds is ignored too
   abbrev pub noted : List (Place E) → ℕ → ℕ → List (Place E)
@@ -91,13 +90,13 @@ module _ {E A : Type 0} (accepted : A) (refused : Refusal → A) (entry : ℕ �
       (model_after accepted (added_at entry ps k ssrc full))
 
   -- the first of a stream takes the lowest free place: 2 where there is none
-  abbrev pub started_in : Found → List (Place E) → ℕ → ℕ → ModelAfter E A
-  started_in (At k) ps ssrc number = model_after accepted (added_at entry ps k ssrc (first_full number))
-  started_in Nothing ps ssrc number = model_after (refused NoFreePlace) ps
+  abbrev pub started_in : Option ℕ → List (Place E) → ℕ → ℕ → ModelAfter E A
+  started_in (Some k) ps ssrc number = model_after accepted (added_at entry ps k ssrc (first_full number))
+  started_in None ps ssrc number = model_after (refused NoFreePlace) ps
 
-  abbrev pub admitted_in : Found → List (Place E) → ℕ → ℕ → ModelAfter E A
-  admitted_in (At k) ps ssrc number = later_at ps k ssrc (full_of (highest_in (at ps k)) number)
-  admitted_in Nothing ps ssrc number = started_in (vacant_in ps) ps ssrc number
+  abbrev pub admitted_in : Option ℕ → List (Place E) → ℕ → ℕ → ModelAfter E A
+  admitted_in (Some k) ps ssrc number = later_at ps k ssrc (full_of (highest_in (at ps k)) number)
+  admitted_in None ps ssrc number = started_in (vacant_in ps) ps ssrc number
 
   -- an entry for a number of a stream: 3 or 2
   abbrev pub admitted : List (Place E) → ℕ → ℕ → ModelAfter E A

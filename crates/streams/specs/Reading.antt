@@ -1,16 +1,15 @@
 -- Rules: "What a store means". A store reads as the machine says: place by place, and each cell of
 -- each window.
-use Rattle.std.specs.Prelude.{ℕ, ◌+◌, ◌%◌, ◌≤◌, ◌<◌, ◌≡◌, List, [], ◌∷◌, ◌++◌, length}
+use Rattle.std.specs.Prelude.{ℕ, ◌+◌, ◌%◌, ◌≤◌, ◌<◌, ◌≡◌, List, [], ◌∷◌, ◌++◌, length, Option, Some, None}
 use Rattle.lists.specs.All.{All}
 use Rattle.ring.specs.Ring.{cells_of_a_place}
 use Rattle.window.specs.Number.{sequence_numbers}
 use Rattle.places.specs.Place.{place_at}
 use Rattle.places.specs.Shape.{Shaped}
-use Rattle.places.specs.declared.Holding.{Holding}
+use Rattle.places.specs.declared.Stream.{Stream}
 use Rattle.place_window.specs.Window.{cell_at}
 use Rattle.streams.specs.Full.{lowest_full}
 use Rattle.streams.specs.Model.{Place, free, stream, at}
-use Rattle.places.specs.declared.Holding.TheVariants.{Free, Held}
 
 -- a store in the two lent slices
 pub record Store : Type 0 where
@@ -20,7 +19,7 @@ pub record Store : Type 0 where
 -- rule "Fresh store": of the right shape, and every place is free
 pub record Fresh (st : Store) : Type 0 where
   pub shape : Shaped st.places st.cells
-  pub empty : (k : ℕ) → place_at st.places k ≡ Free
+  pub empty : (k : ℕ) → place_at st.places k ≡ None
 
 -- what the entries of a stream are, and what is known of a number
 pub record Meaning (E C : Type 0) : Type 0 where
@@ -44,15 +43,15 @@ module _ {E C : Type 0} (M : Meaning E C) where
 
   -- the place k of a store, read as h, with its cells, has the stream's SSRC, its highest full number and its
   -- entries
-  pub record Holds (cells : List ℕ) (k : ℕ) (h : Holding) (ssrc top : ℕ) (es : List E) : Type 0 where
-    pub place : h ≡ Held ssrc (top % sequence_numbers)
+  pub record Holds (cells : List ℕ) (k : ℕ) (h : Option Stream) (ssrc top : ℕ) (es : List E) : Type 0 where
+    pub place : h ≡ Some (record { ssrc = ssrc; highest = top % sequence_numbers })
     pub window : (n : ℕ) → n ≤ top → top < n + cells_of_a_place → M.read (cell_at cells k n) ≡ M.shown es n
     pub begun : sequence_numbers ≤ top
     pub highest : All (λ (e : E). M.full e ≤ top) es
     pub lowest : All (λ (e : E). lowest_full ≤ M.full e) es
 
-  abbrev pub ReadsAt : List ℕ → ℕ → Holding → Place E → Type 0
-  ReadsAt cells k h free = h ≡ Free
+  abbrev pub ReadsAt : List ℕ → ℕ → Option Stream → Place E → Type 0
+  ReadsAt cells k h free = h ≡ None
   ReadsAt cells k h (stream ssrc top es) = Holds cells k h ssrc top es
 
   pub record Reads (st : Store) (ps : List (Place E)) : Type 0 where

@@ -1,11 +1,11 @@
 // Takes what is whole of the octets of an arrival file that are at hand: the header, and then records.
-#![tactic(auto)]
+#![tactic(auto, unfolding(arrival_file::specs::Pieces::taken_here))]
 
 ghost use Rattle.arrival_file.specs.Pieces.{taken_here};
 ghost use Rattle.recording.specs.Recorded.{recorded, after_record};
 ghost use Rattle.recording.specs.Steps.{TakenTo};
 
-use arrival_file::{Check, FILE_HEADER_OCTETS, Phase};
+use arrival_file::{FILE_HEADER_OCTETS, Phase};
 use recording::Taken;
 
 // Takes the header, and the whole records after it.
@@ -16,18 +16,17 @@ fn take_file(places: &mut [u64], cells: &mut [u64], s: &[u8], rts: u32, gap: u16
     if s.len() < FILE_HEADER_OCTETS {
         return Taken {
             phase: Phase::Header,
-            rts: rts,
-            gap: gap,
+            rts,
+            gap,
             at: 0,
         };
     }
-    let header = arrival_file::check_header(s);
-    match header {
-        Check::Sound => recording::take_records(places, cells, s, FILE_HEADER_OCTETS, rts, gap),
-        Check::Refused(e) => Taken {
+    match arrival_file::check_header(s) {
+        Ok(()) => recording::take_records(places, cells, s, FILE_HEADER_OCTETS, rts, gap),
+        Err(e) => Taken {
             phase: Phase::Faulty(e),
-            rts: rts,
-            gap: gap,
+            rts,
+            gap,
             at: s.len(),
         },
     }
@@ -48,10 +47,10 @@ pub fn take(
     match phase {
         Phase::Header => take_file(places, cells, s, rts, gap),
         Phase::Records => recording::take_records(places, cells, s, 0, rts, gap),
-        Phase::Faulty(e) => Taken {
-            phase: Phase::Faulty(e),
-            rts: rts,
-            gap: gap,
+        Phase::Faulty(_) => Taken {
+            phase,
+            rts,
+            gap,
             at: s.len(),
         },
     }

@@ -11,11 +11,9 @@ use Rattle.octets.specs.Octets.{be16, be32}
 use Rattle.packet_header.specs.Header.{differ, start_of}
 use Rattle.packet.specs.Sizes.{most_reports, block_header_octets, rts_octets, block_octets}
 use Rattle.walk.specs.declared.ReportBlock.{ReportBlock}
-use Rattle.packet_header.specs.declared.Start.{Start}
-use Rattle.walk.specs.declared.Step.{Step}
+use Rattle.std.specs.Prelude.{Option, Result, Some, None, Ok, Err}
+use Rattle.packet_header.specs.declared.Cursor.{Cursor}
 use Rattle.refusal.specs.declared.Refusal.TheVariants.{RunsIntoRts, TooManyReports, FillerNotZero}
-use Rattle.packet_header.specs.declared.Start.TheVariants as start
-use Rattle.walk.specs.declared.Step.TheVariants.{Block, End, Refused}
 
 -- ---- the block at an offset
 
@@ -37,18 +35,18 @@ block_here_of s at n = record {
 }
 
 -- a block of n reports at an offset: 27, room for the metrics (26), 28; the next block stands behind it
-abbrev pub block_of : List ℕ → ℕ → ℕ → Step
+abbrev pub block_of : List ℕ → ℕ → ℕ → Result (Option (ReportBlock × Cursor)) Refusal
 block_of s at n =
-    cond (ltb most_reports n) (Refused TooManyReports)
-    (cond (ltb (rts_at s) (at + block_octets n)) (Refused RunsIntoRts)
-    (cond (differ (filler_at s at n) 0) (Refused FillerNotZero)
-    (Block (block_here_of s at n) (record { at = at + block_octets n }))))
+    cond (ltb most_reports n) (Err TooManyReports)
+    (cond (ltb (rts_at s) (at + block_octets n)) (Err RunsIntoRts)
+    (cond (differ (filler_at s at n) 0) (Err FillerNotZero)
+    (Ok (Some (block_here_of s at n, record { at = at + block_octets n })))))
 
 -- what stands at an offset: the end where RTS begins, else a block: room for its header (26), then the block
-unfoldable pub step_at : List ℕ → ℕ → Step
+unfoldable pub step_at : List ℕ → ℕ → Result (Option (ReportBlock × Cursor)) Refusal
 step_at s at =
-    cond (leb (rts_at s) at) End
-    (cond (ltb (rts_at s) (at + block_header_octets)) (Refused RunsIntoRts)
+    cond (leb (rts_at s) at) (Ok None)
+    (cond (ltb (rts_at s) (at + block_header_octets)) (Err RunsIntoRts)
     (block_of s at (be16 s (at + 6))))
 
 -- ---- the walk
@@ -62,10 +60,10 @@ abbrev pub in_front : ReportBlock → Walked → Walked
 in_front b (walked bs) = walked (b ∷ bs)
 in_front b (stopped e) = stopped e
 
-abbrev pub onward : Step → (ℕ → Walked) → Walked
-onward (Block b next) rest = in_front b (rest next.at)
-onward End rest = walked []
-onward (Refused e) rest = stopped e
+abbrev pub onward : Result (Option (ReportBlock × Cursor)) Refusal → (ℕ → Walked) → Walked
+onward (Ok (Some (b, next))) rest = in_front b (rest next.at)
+onward (Ok None) rest = walked []
+onward (Err e) rest = stopped e
 
 -- block by block, starting at an offset; n bounds the number of blocks
 unfoldable pub walk : ℕ → List ℕ → ℕ → Walked
@@ -76,9 +74,9 @@ walk (suc n) s at = onward (step_at s at) (λ next. walk n s next)
 abbrev pub walk_from : List ℕ → ℕ → Walked
 walk_from s at = walk (length s) s at
 
-abbrev pub started : Start → List ℕ → Walked
-started (start.At c) s = walk_from s c.at
-started (start.Refused e) s = stopped e
+abbrev pub started : Result Cursor Refusal → List ℕ → Walked
+started (Ok c) s = walk_from s c.at
+started (Err e) s = stopped e
 
 -- the blocks of a packet, or the reader's first refusal
 unfoldable pub walk_of : List ℕ → Walked

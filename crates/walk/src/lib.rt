@@ -19,15 +19,8 @@ pub struct ReportBlock {
     pub metrics_at: usize,
 }
 
-// What stands at a cursor: a block, with the cursor behind it, or the end of the blocks.
-#[derive(Clone, Copy)]
-pub enum Step {
-    Block(ReportBlock, Cursor),
-    End,
-    Refused(Refusal),
-}
-
 // The 16 bits behind an odd count of metrics, of the block at an offset; 0 where the count is even.
+#[tactic(auto, using(packet::proofs::Sizes::odd_octets), unfolding(crate::specs::Walk::filler_at))]
 fn filler_at(packet: &[u8], at: usize, num_reports: u16) -> u16
     requires room { at + block_octets num_reports ≤ length packet.now }
     ensures value { result ≡ filler_at packet.now at num_reports }
@@ -42,38 +35,39 @@ fn filler_at(packet: &[u8], at: usize, num_reports: u16) -> u16
 }
 
 // The block that stands here and the cursor behind it, or the end, or the first of the block's refusals, 26 to 28.
-pub fn next(cursor: Cursor, packet: &[u8]) -> Step
+#[tactic(auto, using(crate::proofs::Steps::steps))]
+pub fn next(cursor: Cursor, packet: &[u8]) -> Result<Option<(ReportBlock, Cursor)>, Refusal>
     ensures value { result ≡ step_at packet.now cursor.at }
 {
     let at = cursor.at;
     if packet.len() < RTS_OCTETS {
-        return Step::End;
+        return Ok(None);
     }
     let rts = packet.len() - RTS_OCTETS;
     if rts <= at {
-        return Step::End;
+        return Ok(None);
     }
     if rts - at < BLOCK_HEADER_OCTETS {
-        return Step::Refused(Refusal::RunsIntoRts);
+        return Err(Refusal::RunsIntoRts);
     }
     let num_reports = octets::get16(packet, at + 6);
     if MOST_REPORTS < num_reports {
-        return Step::Refused(Refusal::TooManyReports);
+        return Err(Refusal::TooManyReports);
     }
     let size = packet::block_octets(num_reports);
     if rts - at < size {
-        return Step::Refused(Refusal::RunsIntoRts);
+        return Err(Refusal::RunsIntoRts);
     }
     if filler_at(packet, at, num_reports) != 0 {
-        return Step::Refused(Refusal::FillerNotZero);
+        return Err(Refusal::FillerNotZero);
     }
-    Step::Block(
+    Ok(Some((
         ReportBlock {
             ssrc: octets::get32(packet, at),
             begin_seq: octets::get16(packet, at + 4),
-            num_reports: num_reports,
+            num_reports,
             metrics_at: at + BLOCK_HEADER_OCTETS,
         },
         Cursor { at: at + size },
-    )
+    )))
 }

@@ -22,10 +22,11 @@ pub enum Move {
 pub fn distance(a: u16, b: u16) -> u16
     ensures value { result ≡ distance_of a b }
 {
-    std::num::wrapping_sub_u16(a, b)
+    a.wrapping_sub(b)
 }
 
 // How number moves the window that ends with highest.
+#[tactic(auto, unfolding(crate::specs::Number::move_of))]
 pub fn move_of(highest: u16, number: u16) -> Move
     ensures value { result ≡ move_of highest number }
 {
@@ -47,10 +48,5 @@ pub fn move_of(highest: u16, number: u16) -> Move
 pub fn newly(f: u16) -> usize
     ensures value { result ≡ min f cells_of_a_place }
 {
-    let numbers = f as usize;
-    if numbers <= CELLS_OF_A_PLACE {
-        numbers
-    } else {
-        CELLS_OF_A_PLACE
-    }
+    (f as usize).min(CELLS_OF_A_PLACE)
 }

@@ -1,53 +1,44 @@
--- The cases of `written`, by the tests that the code makes. Assumes nothing.
-use mathlib.Core.Path.{◌≡◌}
-use mathlib.Core.Bool.{true, false}
-use mathlib.Core.List.{List, []}
-use Prim.Native.Nat.{ℕ, ◌≤◌, ◌<◌}
-use borrow.Author.Tests.{lt-ltb, le-ltb}
-use Rattle.refusal.specs.declared.Refusal.{Refusal}
-use Rattle.octets.specs.Output.{OutputAfter}
+-- `written`, by the check of the call and that of the requests. Assumes nothing.
+use Rattle.std.proofs.Common.{◌≡◌, ℕ, Bool, true, false, cond, ltb, List, [], refl}
 use Rattle.places.specs.Shape.{shaped}
+use Rattle.octets.specs.Output.{OutputAfter}
 use Rattle.cutting.specs.Limits.{least_limit, most_limit, most_requests}
 use Rattle.cutting.specs.Plan.{plan}
 use Rattle.cutting.specs.declared.Request.{Request}
-use Rattle.requests.specs.declared.Verdict.{Verdict}
+use Rattle.std.specs.Prelude.{Result, Ok, Err}
+use Rattle.refusal.specs.declared.Refusal.{Refusal}
+use Rattle.plan_size.specs.declared.Total.{Total}
 use Rattle.requests.specs.Requests.{checked}
 use Rattle.blocks.specs.Packets.{packets_for}
 use Rattle.sound_writer.specs.Put.{writing_refused, put_packets}
-use Rattle.sound_writer.specs.declared.Answer.{Answer}
-use Rattle.writer.specs.Written.{written}
+use Rattle.writer.specs.Steps.{call_checked}
+use Rattle.writer.specs.Written.{if_all_sound, written}
 use Rattle.refusal.specs.declared.Refusal.TheVariants.{BadStore, BadLimit, TooManyRequests}
-use Rattle.requests.specs.declared.Verdict.TheVariants.{Sound, Fault}
+
+-- a call that is sound is on a store of the right shape
+pub sound_shaped : (places cells : List ℕ) (limit n : ℕ) → call_checked places cells limit n ≡ Ok tt → shaped places cells ≡ true
+sound_shaped places cells limit n e = by (shaped places cells) _ e
+  where
+    by : (b : Bool) (rest : Result (Unit {0}) Refusal) → cond b rest (Err BadStore) ≡ Ok tt → b ≡ true
+    by true rest h = refl
+    by false rest h = absurd (cc)
+
+-- each test refuses, or leaves it to the next
+tested : (shaped low high many : Bool) (o : OutputAfter (Result Total Refusal)) (out : List ℕ)
+    → if_all_sound (cond shaped (cond low (Err BadLimit) (cond high (Err BadLimit) (cond many (Err TooManyRequests) (Ok tt)))) (Err BadStore)) o out
+    ≡ cond shaped
+    (cond low (writing_refused BadLimit out) (cond high (writing_refused BadLimit out) (cond many (writing_refused TooManyRequests out) o)))
+    (writing_refused BadStore out)
+tested false low high many o out = refl
+tested true true high many o out = refl
+tested true false true many o out = refl
+tested true false false true o out = refl
+tested true false false false o out = refl
 
 module _ (places cells : List ℕ) (sender rts limit n : ℕ) (rs : List Request) (out : List ℕ) where
-  abbrev all : OutputAfter Answer
-  all = written places cells sender rts limit n rs out
-
-  pub bad_store_lem : shaped places cells ≡ false → writing_refused BadStore out ≡ all
+  -- the verdict on the call counts before that on the requests
+  pub written_by : (call v : Result (Unit {0}) Refusal) → call ≡ call_checked places cells limit n → v ≡ checked places [] rs
+      → if_all_sound call (if_all_sound v (put_packets (plan limit rs) (packets_for places cells sender rts limit rs) out) out) out
+      ≡ written places cells sender rts limit n rs out
   unfolding written
-  bad_store_lem s = rw s
-
-  module _ (s : shaped places cells ≡ true) where
-    pub limit_low : limit < least_limit → writing_refused BadLimit out ≡ all
-    unfolding written
-    limit_low h = rw (s, lt-ltb limit least_limit h)
-
-    module _ (l : least_limit ≤ limit) where
-      pub limit_high : most_limit < limit → writing_refused BadLimit out ≡ all
-      unfolding written
-      limit_high h = rw (s, le-ltb limit least_limit l, lt-ltb most_limit limit h)
-
-      module _ (m : limit ≤ most_limit) where
-        pub too_many : most_requests < n → writing_refused TooManyRequests out ≡ all
-        unfolding written
-        too_many h = rw (s, le-ltb limit least_limit l, le-ltb most_limit limit m, lt-ltb most_requests n h)
-
-        module _ (k : n ≤ most_requests) (v : Verdict) (e : v ≡ checked places [] rs) where
-          pub unsound : (x : Refusal) → v ≡ Fault x → writing_refused x out ≡ all
-          unfolding written
-          unsound x h = rw (s, le-ltb limit least_limit l, le-ltb most_limit limit m, le-ltb most_requests n k, ← e, h)
-
-          pub sound : (o : OutputAfter Answer) → v ≡ Sound
-              → o ≡ put_packets (plan limit rs) (packets_for places cells sender rts limit rs) out → o ≡ all
-          unfolding written
-          sound o h g = rw (s, le-ltb limit least_limit l, le-ltb most_limit limit m, le-ltb most_requests n k, ← e, h) g
+  written_by call v e f = rw (e, f) (tested (shaped places cells) (ltb limit least_limit) (ltb most_limit limit) (ltb most_requests n) _ out)

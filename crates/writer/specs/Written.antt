@@ -1,26 +1,25 @@
 -- Rules: "Writer", "Order of refusals". The answer and the output, for every input and any lent
 -- store content. Refusals 4, 6, 7; for each request in turn 5, 8, 9; and last 10.
-use Rattle.std.specs.Prelude.{ℕ, cond, List, [], ltb}
+use Rattle.std.specs.Prelude.{ℕ, cond, List, [], ltb, Result, Ok, Err}
 use Rattle.octets.specs.Output.{OutputAfter}
 use Rattle.places.specs.Shape.{shaped}
 use Rattle.cutting.specs.Limits.{least_limit, most_limit, most_requests}
 use Rattle.cutting.specs.Plan.{plan}
 use Rattle.cutting.specs.declared.Request.{Request}
-use Rattle.requests.specs.declared.Verdict.{Verdict}
+use Rattle.refusal.specs.declared.Refusal.{Refusal}
+use Rattle.plan_size.specs.declared.Total.{Total}
 use Rattle.requests.specs.Requests.{checked}
 use Rattle.blocks.specs.Packets.{packets_for}
 use Rattle.sound_writer.specs.Put.{writing_refused, put_packets}
-use Rattle.sound_writer.specs.declared.Answer.{Answer}
 use Rattle.refusal.specs.declared.Refusal.TheVariants.{BadStore, BadLimit, TooManyRequests}
-use Rattle.requests.specs.declared.Verdict.TheVariants.{Sound, Fault}
 
 -- o, if the verdict on the requests is that all are sound
-abbrev pub if_all_sound : Verdict → OutputAfter Answer → List ℕ → OutputAfter Answer
-if_all_sound Sound o out = o
-if_all_sound (Fault e) o out = writing_refused e out
+abbrev pub if_all_sound : Result (Unit {0}) Refusal → OutputAfter (Result Total Refusal) → List ℕ → OutputAfter (Result Total Refusal)
+if_all_sound (Ok tt) o out = o
+if_all_sound (Err e) o out = writing_refused e out
 
 -- a report on n requests rs
-unfoldable pub written : List ℕ → List ℕ → ℕ → ℕ → ℕ → ℕ → List Request → List ℕ → OutputAfter Answer
+unfoldable pub written : List ℕ → List ℕ → ℕ → ℕ → ℕ → ℕ → List Request → List ℕ → OutputAfter (Result Total Refusal)
 written places cells sender rts limit n rs out =
     cond (shaped places cells)
     (cond (ltb limit least_limit) (writing_refused BadLimit out)

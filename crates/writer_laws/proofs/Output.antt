@@ -7,7 +7,10 @@ use lib.ListN.{length, take, drop, get_or, length-append, length-map}
 use lib.Seq.{take_at, drop_at}
 use borrow.Author.Tests.{eq-eqb, ne_eqb, lt-leb}
 use Rattle.lists.specs.All.{All}
-use Rattle.lists.specs.declared.Found.{Found}
+use Rattle.metric.specs.declared.Metric.{Metric}
+use Rattle.std.specs.Prelude.{Option, Result, Some, None, Ok}
+use Rattle.reports.specs.declared.Reported.{Reported}
+use Rattle.refusal.specs.declared.Refusal.{Refusal}
 use Rattle.lists.proofs.Cases.{never}
 use Rattle.lists.proofs.All.{all_left, all_right}
 use Rattle.octets.specs.Octets.{be16}
@@ -22,7 +25,6 @@ use Rattle.packet.specs.Sizes.{block_octets, blocks_octets}
 use Rattle.packet.proofs.Sizes.{length_packet}
 use Rattle.walk.specs.Walk.{Walked}
 use Rattle.walk.specs.declared.ReportBlock.{ReportBlock}
-use Rattle.reports.specs.declared.MetricAnswer.{MetricAnswer}
 use Rattle.reader.specs.Reading.{Decoded, decode_packet, read_of}
 use Rattle.block_reader.specs.Blocks.{nth, located}
 use Rattle.packet_laws.specs.Asked.{laid_block, laid, block_metric, packet_metric}
@@ -37,11 +39,7 @@ use Rattle.blocks.specs.Packets.{store_metric_at, report_block, report_packet, e
 use Rattle.report_block.proofs.Metrics.{length_of_lem}
 use Rattle.writer_laws.specs.Read.{first_octets, walk_lengths, packets_in, request_of, block_read, blocks_read, cutting_read, PacketRead, seen_at, MetricsRead}
 use Rattle.writer_laws.proofs.Small.{Small, metric_asked}
-use Rattle.lists.specs.declared.Found.TheVariants.{At, Nothing}
 use Rattle.packet.specs.Packet as packet
-use Rattle.reader.specs.declared.Reading.TheVariants as reading
-use Rattle.block_reader.specs.declared.BlockAnswer.TheVariants as answer
-use Rattle.reports.specs.declared.MetricAnswer.TheVariants as asked
 
 -- ---- the walk over length fields
 
@@ -100,7 +98,7 @@ pub packet_read : (rs : List Request) (p : packet.Packet) → packet.Fit p → P
 packet_read rs p f =
     let n = length-map (laid 8 p.blocks) (block_read rs) ∙ length_laid 8 p.blocks in
     let e = ap (λ (w : Walked). length (blocks_read rs w)) (walk_back p f) ∙ n in
-    ap read_of (read_back p f) ∙ ap (reading.Accepted p.sender p.rts) (sym e)
+    ap read_of (read_back p f) ∙ ap (λ (n : ℕ). Ok (record { sender = p.sender; rts = p.rts; blocks = n })) (sym e)
 
 -- ---- the blocks, as those of requests
 
@@ -132,10 +130,10 @@ module _ (metric : ℕ → ℕ → ℕ) (rs : List Request) (d : DifferentStream
 
 -- ---- the metrics
 
-seen : (f : Found) (cells : List ℕ) (rts number : ℕ) → decode_of (store_metric_at f cells rts number) ≡ seen_at f cells rts number
+seen : (f : Option ℕ) (cells : List ℕ) (rts number : ℕ) → decode_of (store_metric_at f cells rts number) ≡ seen_at f cells rts number
 unfolding cell_metric
-seen (At p) cells rts number = decode_encode (read_cell (cell_at cells p number)) rts
-seen Nothing cells rts number = reads_not_received 0 (omega arith)
+seen (Some p) cells rts number = decode_encode (read_cell (cell_at cells p number)) rts
+seen None cells rts number = reads_not_received 0 (omega arith)
 
 -- metric j of k numbers that start at s is that of the number j after s
 get_metric : (m : ℕ → ℕ) (s k j : ℕ) → j < k → get_or (map m (numbers_from s k)) j 0 ≡ m (number_after s j)
@@ -147,8 +145,8 @@ module _ (places cells : List ℕ) (sender rts : ℕ) (rs : List Request) (x : A
   abbrev metric : ℕ → ℕ → ℕ
   metric = metric_asked places cells sender rts rs x
 
-  abbrev Answered : ReportBlock → ℕ → MetricAnswer → Type 0
-  Answered b j a = a ≡ asked.Reported ((b.begin_seq + j) % 65536) (seen_at (find_of places b.ssrc) cells rts ((b.begin_seq + j) % 65536))
+  abbrev Answered : ReportBlock → ℕ → Result Reported Refusal → Type 0
+  Answered b j a = a ≡ Ok (record { number = (b.begin_seq + j) % 65536; metric = seen_at (find_of places b.ssrc) cells rts ((b.begin_seq + j) % 65536) })
 
   block_answered : (y : CutBlock) (at j : ℕ) → Small y → j < length (map (metric y.request) (numbers_from y.begin y.count))
       → Answered (laid_block at (report_block metric rs y)) j (block_metric (report_block metric rs y) j)
@@ -157,10 +155,10 @@ module _ (places cells : List ℕ) (sender rts : ℕ) (rs : List Request) (x : A
       let n = length_of_lem m y.begin y.count in
       let g = get_metric m y.begin y.count j (omega arith) ∙ ap m (after_sum y.begin j h.0) in
       rw (lt-leb (length (map m (numbers_from y.begin y.count))) j l, g)
-      (ap (asked.Reported ((y.begin + j) % 65536)) (seen (find_of places (stream_of rs y.request)) cells rts ((y.begin + j) % 65536)))
+      (ap (λ (m : Metric). Ok (record { number = (y.begin + j) % 65536; metric = m })) (seen (find_of places (stream_of rs y.request)) cells rts ((y.begin + j) % 65536)))
 
   metric_answered : (p : CutPacket) (at k j : ℕ) (b : ReportBlock) → All Small p
-      → nth (laid at (map (report_block metric rs) p)) k ≡ answer.Found b → j < b.num_reports
+      → nth (laid at (map (report_block metric rs) p)) k ≡ Ok b → j < b.num_reports
       → Answered b j (packet_metric (map (report_block metric rs) p) k j)
   unfolding laid
   metric_answered [] at k j b h e l = never (cc)

@@ -20,13 +20,14 @@ use Rattle.cutting.specs.declared.Request.{Request}
 use Rattle.blocks.specs.Packets.{store_metric, report_packet, encode_packets, packets_for}
 use Rattle.sound_writer.specs.Put.{writing_refused, put_packets}
 use Rattle.writer.specs.Written.{written}
-use Rattle.sound_writer.specs.declared.Answer.{Answer}
+use Rattle.std.specs.Prelude.{Result, Ok, Err}
+use Rattle.plan_size.specs.declared.Total.{Total}
+use Rattle.std.proofs.lemmas.Result.{IfOk-at_ok}
 use Rattle.packets.proofs.Packets.{length_report}
-use Rattle.writer.proofs.Calls.{bad_store_lem, limit_low, limit_high, too_many, unsound, sound}
+use Rattle.writer_laws.proofs.Calls.{bad_store_lem, limit_low, limit_high, too_many, unsound, sound}
 use Rattle.writer_laws.specs.Refused.{AllSound, none, Proper, WritingGiven, bad_store, bad_limit, too_many_of, in_request, too_short_of}
 use Rattle.writer_laws.proofs.Requests.{sound_checked, fault_checked, checked_cases}
 use Rattle.refusal.specs.declared.Refusal.TheVariants.{OutputTooShort}
-use Rattle.sound_writer.specs.declared.Answer.TheVariants.{Written, Refused}
 
 -- the octets of packets back to back
 length_packets : (metric : ℕ → ℕ → ℕ) (rs : List Request) (sender rts : ℕ) (c : Cutting)
@@ -44,14 +45,14 @@ module _ (places cells : List ℕ) (sender rts limit n : ℕ) (rs : List Request
   pub length_octets : length octets ≡ total_octets (plan limit rs)
   length_octets = length_packets (λ i. store_metric places cells rts (stream_of rs i)) rs sender rts (plan limit rs)
 
-  abbrev all : OutputAfter Answer
+  abbrev all : OutputAfter (Result Total Refusal)
   all = written places cells sender rts limit n rs out
 
   abbrev Here : Type 0
   Here = Proper places cells sender rts limit n rs out
 
-  abbrev full : OutputAfter Answer
-  full = output_after (Written (length (plan limit rs)) (total_octets (plan limit rs))) (sets out 0 octets)
+  abbrev full : OutputAfter (Result Total Refusal)
+  full = output_after (Ok (record { packets = length (plan limit rs); octets = total_octets (plan limit rs) })) (sets out 0 octets)
 
   -- ---- the call, case by case
 
@@ -114,32 +115,36 @@ module _ (places cells : List ℕ) (sender rts limit n : ℕ) (rs : List Request
           (λ l. f _ (bad_limit s (inl l)))
 
   -- each refusal is answered exactly when it is given
-  pub refusals : (e : Refusal) → (all.answer ≡ Refused e) ↔ WritingGiven places cells sender rts limit n rs out e
-  refusals e = (there, λ g. ap (λ (o : OutputAfter Answer). o.answer) (given_refused e g))
+  pub refusals : (e : Refusal) → (all.answer ≡ Err e) ↔ WritingGiven places cells sender rts limit n rs out e
+  refusals e = (there, λ g. ap (λ (o : OutputAfter (Result Total Refusal)). o.answer) (given_refused e g))
     where
-      there : all.answer ≡ Refused e → WritingGiven places cells sender rts limit n rs out e
+      there : all.answer ≡ Err e → WritingGiven places cells sender rts limit n rs out e
       there q =
           cases
           (λ d g.
-          let w = ap (λ (o : OutputAfter Answer). o.answer) (given_refused d g) in
+          let w = ap (λ (o : OutputAfter (Result Total Refusal)). o.answer) (given_refused d g) in
           let z : d ≡ e = cc in
           subst (WritingGiven places cells sender rts limit n rs out) z g)
-          (λ a. let w = ap (λ (o : OutputAfter Answer). o.answer) (accepted_written a) in never (cc))
+          (λ a. let w = ap (λ (o : OutputAfter (Result Total Refusal)). o.answer) (accepted_written a) in never (cc))
 
   -- a refused call leaves the output as it was
-  pub unchanged : (e : Refusal) → all.answer ≡ Refused e → all.output ≡ out
-  unchanged e q = ap (λ (o : OutputAfter Answer). o.output) (given_refused e ((refusals e).0 q))
+  pub unchanged : (e : Refusal) → all.answer ≡ Err e → all.output ≡ out
+  unchanged e q = ap (λ (o : OutputAfter (Result Total Refusal)). o.output) (given_refused e ((refusals e).0 q))
 
   -- and what it answers where it does not refuse
-  pub accepted : (p o : ℕ) → all.answer ≡ Written p o → WritingAccepted × (p ≡ length (plan limit rs)) × (o ≡ total_octets (plan limit rs))
+  pub accepted : (p o : ℕ) → all.answer ≡ Ok (record { packets = p; octets = o }) → WritingAccepted × (p ≡ length (plan limit rs)) × (o ≡ total_octets (plan limit rs))
   accepted p o q =
       cases
-      (λ e g. let w = ap (λ (x : OutputAfter Answer). x.answer) (given_refused e g) in never (cc))
-      (λ a. let w = ap (λ (x : OutputAfter Answer). x.answer) (accepted_written a) in (a, cc, cc))
+      (λ e g. let w = ap (λ (x : OutputAfter (Result Total Refusal)). x.answer) (given_refused e g) in never (cc))
+      (λ a.
+      let w = ap (λ (x : OutputAfter (Result Total Refusal)). x.answer) (accepted_written a) in
+      let told =
+      IfOk-at_ok (λ (t : Total). (t.packets ≡ length (plan limit rs)) × (t.octets ≡ total_octets (plan limit rs))) (sym w ∙ q) (refl, refl)
+      in (a, told.0, told.1))
 
 -- rule "No request": 0 packets and 0 octets
 pub no_request_lem : (places cells : List ℕ) (sender rts limit : ℕ) (out : List ℕ) → Proper places cells sender rts limit 0 [] out
-    → written places cells sender rts limit 0 [] out ≡ output_after (Written 0 0) out
+    → written places cells sender rts limit 0 [] out ≡ output_after (Ok (record { packets = 0; octets = 0 })) out
 unfolding packets_from encode_packets
 no_request_lem places cells sender rts limit out h =
     accepted_written places cells sender rts limit 0 [] out (record { proper = h; requests = none; room = omega arith })

@@ -9,7 +9,7 @@ use native.Mathlib.Decide.{ℕ_discrete}
 use lib.Dec.{eqb}
 use borrow.Author.Tests.{eqb-true, leb-true, le-leb, eq-eqb}
 use Rattle.lists.specs.All.{All}
-use Rattle.lists.specs.declared.Found.{Found}
+use Rattle.std.specs.Prelude.{Option, Result, Some, None, Ok, Err}
 use Rattle.lists.proofs.Cases.{never, split_le}
 use Rattle.refusal.specs.declared.Refusal.{Refusal}
 use Rattle.window.specs.Number.{distance_of}
@@ -18,16 +18,11 @@ use Rattle.places.specs.Place.{find_of, highest_at}
 use Rattle.places.proofs.Held.{lost_unheld, held_found, unheld_lost, found_held}
 use Rattle.cutting.specs.Cutting.{DifferentStreams}
 use Rattle.cutting.specs.declared.Request.{Request}
-use Rattle.request_check.specs.declared.Checked.{Checked}
-use Rattle.requests.specs.declared.Verdict.{Verdict}
 use Rattle.request_check.specs.Check.{named, in_window_of, check_of}
 use Rattle.requests.specs.Requests.{and_then, checked}
 use Rattle.request_check.proofs.Checks.{check_unheld, check_repeated, check_sound, check_outside, window_empty, window_in, window_out}
 use Rattle.writer_laws.specs.Refused.{Named, here, there, InWindow, SoundAt, FaultIn, AllSound, none, more, FirstFault}
 use Rattle.refusal.specs.declared.Refusal.TheVariants.{NotHeld, StreamRepeated, BadRange}
-use Rattle.lists.specs.declared.Found.TheVariants as lists
-use Rattle.request_check.specs.declared.Checked.TheVariants.{At, Fault}
-use Rattle.requests.specs.declared.Verdict.TheVariants as verdict
 
 -- ---- the tests
 
@@ -96,12 +91,12 @@ module _ (highest begin count : ℕ) where
 -- ---- a request
 
 module _ (places : List ℕ) (earlier : List Request) (r : Request) where
-  sound_check : (p : ℕ) → SoundAt places earlier r p → check_of places earlier r ≡ At p
+  sound_check : (p : ℕ) → SoundAt places earlier r p → check_of places earlier r ≡ Ok p
   sound_check p s =
       let found = held_found places r.ssrc p s.highest s.held in
       sym (check_sound places earlier r _ refl p found.0 (not_named earlier r.ssrc s.new) _ (sym found.1) (window_is _ _ _ s.range))
 
-  fault_check : (e : Refusal) → FaultIn places earlier r e → check_of places earlier r ≡ Fault e
+  fault_check : (e : Refusal) → FaultIn places earlier r e → check_of places earlier r ≡ Err e
   fault_check e (FaultIn.not_held f) = sym (check_unheld places earlier r _ refl (unheld_lost places r.ssrc f))
   fault_check e (FaultIn.repeated p h f n) =
       sym (check_repeated places earlier r _ refl p (held_found places r.ssrc p h f).0 (named_is earlier r.ssrc n))
@@ -110,13 +105,13 @@ module _ (places : List ℕ) (earlier : List Request) (r : Request) where
       sym (check_outside places earlier r _ refl p found.0 (not_named earlier r.ssrc n) _ (sym found.1) (not_window _ _ _ w))
 
   -- To show P of a request's check: it is sound, or has a fault.
-  check_cases : (P : Checked → Type 0) → ((p : ℕ) → SoundAt places earlier r p → P (At p))
-      → ((e : Refusal) → FaultIn places earlier r e → P (Fault e)) → P (check_of places earlier r)
+  check_cases : (P : Result ℕ Refusal → Type 0) → ((p : ℕ) → SoundAt places earlier r p → P (Ok p))
+      → ((e : Refusal) → FaultIn places earlier r e → P (Err e)) → P (check_of places earlier r)
   check_cases P f g = by_found (find_of places r.ssrc) refl
     where
-      by_found : (x : Found) → find_of places r.ssrc ≡ x → P (check_of places earlier r)
-      by_found lists.Nothing h = subst P (check_unheld places earlier r _ refl h) (g NotHeld (FaultIn.not_held (lost_unheld places r.ssrc h)))
-      by_found (lists.At p) h = by (named earlier r.ssrc) refl (in_window_of (highest_at places p) r.begin r.count) refl
+      by_found : (x : Option ℕ) → find_of places r.ssrc ≡ x → P (check_of places earlier r)
+      by_found None h = subst P (check_unheld places earlier r _ refl h) (g NotHeld (FaultIn.not_held (lost_unheld places r.ssrc h)))
+      by_found (Some p) h = by (named earlier r.ssrc) refl (in_window_of (highest_at places p) r.begin r.count) refl
         where
           by : (a : Bool) → named earlier r.ssrc ≡ a → (b : Bool) → in_window_of (highest_at places p) r.begin r.count ≡ b → P (check_of places earlier r)
           by true u b v = subst P (check_repeated places earlier r _ refl p h u)
@@ -132,20 +127,20 @@ module _ (places : List ℕ) (earlier : List Request) (r : Request) where
 -- ---- all requests
 
 module _ (places : List ℕ) where
-  pub sound_checked : (earlier rs : List Request) → AllSound places earlier rs → checked places earlier rs ≡ verdict.Sound
+  pub sound_checked : (earlier rs : List Request) → AllSound places earlier rs → checked places earlier rs ≡ Ok tt
   unfolding checked
   sound_checked earlier [] none = refl
   sound_checked earlier (r ∷ rs) (more p s a) = rw (sound_check places earlier r p s) (sound_checked (earlier ++ r ∷ []) rs a)
 
-  pub fault_checked : (earlier rs : List Request) (e : Refusal) → FirstFault places earlier rs e → checked places earlier rs ≡ verdict.Fault e
+  pub fault_checked : (earlier rs : List Request) (e : Refusal) → FirstFault places earlier rs e → checked places earlier rs ≡ Err e
   unfolding checked
   fault_checked earlier [] e f = elim f [ ]
   fault_checked earlier (r ∷ rs) e (FirstFault.here f) = rw (fault_check places earlier r e f)
   fault_checked earlier (r ∷ rs) e (FirstFault.later p s f) = rw (sound_check places earlier r p s) (fault_checked (earlier ++ r ∷ []) rs e f)
 
   -- To show P of the verdict: all are sound, or there is a first that is not.
-  pub checked_cases : (earlier rs : List Request) (P : Verdict → Type 0) → (AllSound places earlier rs → P verdict.Sound)
-      → ((e : Refusal) → FirstFault places earlier rs e → P (verdict.Fault e)) → P (checked places earlier rs)
+  pub checked_cases : (earlier rs : List Request) (P : Result (Unit {0}) Refusal → Type 0) → (AllSound places earlier rs → P (Ok tt))
+      → ((e : Refusal) → FirstFault places earlier rs e → P (Err e)) → P (checked places earlier rs)
   unfolding checked
   checked_cases earlier [] P f g = f none
   checked_cases earlier (r ∷ rs) P f g =

@@ -3,10 +3,10 @@ use mathlib.Core.List.{List, [], ◌∷◌, map}
 use Prim.Native.Nat.{ℕ, zero, suc, ◌-◌, ◌^◌, ◌≤◌, ◌<◌}
 use native.Mathlib.Omega.{arith}
 use Rattle.lists.specs.All.{All}
-use Rattle.lists.specs.declared.Found.{Found}
+use Rattle.std.specs.Prelude.{Option, Some, None}
+use Rattle.metric.specs.declared.Arrived.{Arrived}
 use Rattle.lists.proofs.Cases.{split_le}
-use Rattle.metric.specs.Metric.{age_of, longest_age, after_rts, ato_of_age, mark_unit, encode_of}
-use Rattle.metric.specs.declared.Cell.{Cell}
+use Rattle.metric.specs.Metric.{age_of, longest_age, after_rts, ato_of_age, ato_of, assembled_of, mark_unit, encode_of}
 use Rattle.metric.proofs.Table.{after_row, over_row, else_row}
 use Rattle.window.specs.Number.{sequence_numbers}
 use Rattle.ring.specs.Ring.{cells_of_a_place}
@@ -23,9 +23,6 @@ use Rattle.cutting.proofs.Plan.{filled_none, filled_cases}
 use Rattle.blocks.specs.Packets.{store_metric_at, store_metric, report_block, report_packet}
 use Rattle.report_block.proofs.Metrics.{length_of_lem}
 use Rattle.packets.proofs.Packets.{blocks_octets_lem, packet_fits}
-use Rattle.metric.specs.declared.Time.TheVariants.{Unknown, Known}
-use Rattle.metric.specs.declared.Cell.TheVariants.{Empty, Filled}
-use Rattle.lists.specs.declared.Found.TheVariants.{At, Nothing}
 use Rattle.packet.specs.Packet as packet
 
 -- ---- metrics
@@ -36,17 +33,20 @@ ato_small age =
     (λ h. rw (after_row age h) (omega arith))
     (λ h. split_le age longest_age (λ l. rw (else_row age l) (omega arith)) (λ l. rw (over_row age l h) (omega arith)))
 
-encode_small : (cell : Cell) (rts : ℕ) → encode_of cell rts < 2 ^ 16
-encode_small Empty rts = omega arith
-encode_small (Filled mark Unknown) rts = omega arith
-encode_small (Filled mark (Known t)) rts = omega (arith, ato_small (age_of rts t))
+encode_small : (cell : Option Arrived) (rts : ℕ) → encode_of cell rts < 2 ^ 16
+encode_small None rts = omega arith
+encode_small (Some a) rts = at_time a.time
+  where
+    at_time : (time : Option ℕ) → assembled_of a.mark (ato_of time rts) < 2 ^ 16
+    at_time None = omega arith
+    at_time (Some t) = omega (arith, ato_small (age_of rts t))
 
-metric_by : (f : Found) (cells : List ℕ) (rts number : ℕ) → store_metric_at f cells rts number < 2 ^ 16
+metric_by : (f : Option ℕ) (cells : List ℕ) (rts number : ℕ) → store_metric_at f cells rts number < 2 ^ 16
 unfolding cell_metric
-metric_by (At p) cells rts number = encode_small (read_cell (cell_at cells p number)) rts
-metric_by Nothing cells rts number = omega arith
+metric_by (Some p) cells rts number = encode_small (read_cell (cell_at cells p number)) rts
+metric_by None cells rts number = omega arith
 
-metrics_small : (f : Found) (cells : List ℕ) (rts : ℕ) (ns : List ℕ) → All (λ m. m < 2 ^ 16) (map (store_metric_at f cells rts) ns)
+metrics_small : (f : Option ℕ) (cells : List ℕ) (rts : ℕ) (ns : List ℕ) → All (λ m. m < 2 ^ 16) (map (store_metric_at f cells rts) ns)
 metrics_small f cells rts [] = tt
 metrics_small f cells rts (s ∷ ns) = (metric_by f cells rts s, metrics_small f cells rts ns)
 

@@ -17,10 +17,10 @@ use Rattle.sound_writer.specs.Put.{put_packets}
 use Rattle.writer.specs.Written.{written}
 use Rattle.writer_laws.specs.Read.{walk_lengths}
 use Rattle.writer_laws.specs.Starred.{five_three, call, sizes, result}
-use Rattle.sound_writer.specs.declared.Answer.TheVariants.{Written, Refused}
+use Rattle.std.specs.Prelude.{Ok, Err}
 
 pub starred : map result ((32, 60) ∷ (32, 59) ∷ (44, 68) ∷ (48, 48) ∷ [])
-    ≡ (Written 2 60, 32 ∷ 28 ∷ []) ∷ (Refused OutputTooShort, []) ∷ (Written 2 68, 44 ∷ 24 ∷ []) ∷ (Written 1 48, 48 ∷ []) ∷ []
+    ≡ (Ok (record { packets = 2; octets = 60 }), 32 ∷ 28 ∷ []) ∷ (Err OutputTooShort, []) ∷ (Ok (record { packets = 2; octets = 68 }), 44 ∷ 24 ∷ []) ∷ (Ok (record { packets = 1; octets = 48 }), 48 ∷ []) ∷ []
 unfolding five_three call sizes result be16 first_from read_place word_time read_cell cell_metric shaped encode_metrics
     filler encode_block encode_blocks encode_packet next_block filled_from packets_from encode_packets named in_window_of check_of checked put_packets written walk_lengths
 starred = refl

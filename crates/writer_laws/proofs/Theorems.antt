@@ -18,14 +18,15 @@ use Rattle.cutting.proofs.ToRules.{rounded}
 use Rattle.blocks.specs.Packets.{report_packet, encode_packets, packets_for}
 use Rattle.packets.proofs.Packets.{length_report}
 use Rattle.writer.specs.Written.{written}
-use Rattle.sound_writer.specs.declared.Answer.{Answer}
+use Rattle.std.specs.Prelude.{Result, Ok}
+use Rattle.plan_size.specs.declared.Total.{Total}
+use Rattle.refusal.specs.declared.Refusal.{Refusal}
 use Rattle.writer_laws.specs.Read.{packets_in, PacketRead, WithinLimit, MetricsRead, InBits, Report}
 use Rattle.writer_laws.proofs.Requests.{sound_different, sound_counts}
 use Rattle.writer_laws.proofs.Refusals.{length_octets, WritingAccepted, accepted_written, accepted}
 use Rattle.writer_laws.proofs.Small.{Fits, metric_asked, plan_small, report_fits}
 use Rattle.writer_laws.proofs.Output.{packets_in_lem, all_accepted, packet_read, cutting_read_lem, metrics_read}
 use Rattle.packet.specs.Packet as packet
-use Rattle.sound_writer.specs.declared.Answer.TheVariants.{Written}
 
 -- ---- what is written stands in front, and the octets behind it stay
 
@@ -42,7 +43,7 @@ module _ (places cells : List ℕ) (sender rts limit n : ℕ) (rs : List Request
   abbrev output : List ℕ
   output = (written places cells sender rts limit n rs out).output
 
-  module _ (bits : InBits sender rts rs) (p o : ℕ) (e : (written places cells sender rts limit n rs out).answer ≡ Written p o) where
+  module _ (bits : InBits sender rts rs) (p o : ℕ) (e : (written places cells sender rts limit n rs out).answer ≡ Ok (record { packets = p; octets = o })) where
     is : WritingAccepted places cells sender rts limit n rs out × (p ≡ length (plan limit rs)) × (o ≡ total_octets (plan limit rs))
     is = accepted places cells sender rts limit n rs out p o e
 
@@ -71,7 +72,7 @@ module _ (places cells : List ℕ) (sender rts limit n : ℕ) (rs : List Request
     size = length_octets places cells sender rts limit n rs out ∙ sym is.2
 
     content : output ≡ sets out 0 (encode_packets packets)
-    content = ap (λ (x : OutputAfter Answer). x.output) (accepted_written places cells sender rts limit n rs out is.0)
+    content = ap (λ (x : OutputAfter (Result Total Refusal)). x.output) (accepted_written places cells sender rts limit n rs out is.0)
 
     room : o ≤ length out
     room = omega (arith, is.0.room, size)

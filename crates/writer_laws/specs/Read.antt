@@ -3,7 +3,7 @@
 -- blocks.
 use Rattle.std.specs.Prelude.{ℕ, zero, suc, ◌+◌, ◌*◌, ◌%◌, ◌^◌, ◌≤◌, ◌<◌, ◌≡◌, cond, List, [], ◌∷◌, map, length, take, drop, eqb}
 use Rattle.lists.specs.All.{All}
-use Rattle.lists.specs.declared.Found.{Found}
+use Rattle.std.specs.Prelude.{Option, Some, None, Ok}
 use Rattle.octets.specs.Octets.{be16}
 use Rattle.metric.specs.Metric.{seen_of}
 use Rattle.metric.specs.declared.Metric.{Metric}
@@ -21,10 +21,6 @@ use Rattle.cutting.specs.Filling.{FilledUp}
 use Rattle.cutting.specs.declared.Request.{Request}
 use Rattle.blocks.specs.Packets.{packets_for}
 use Rattle.metric.specs.declared.Metric.TheVariants.{NotReceived}
-use Rattle.lists.specs.declared.Found.TheVariants.{At, Nothing}
-use Rattle.reader.specs.declared.Reading.TheVariants as reading
-use Rattle.block_reader.specs.declared.BlockAnswer.TheVariants as answer
-use Rattle.reports.specs.declared.MetricAnswer.TheVariants as asked
 
 -- ---- the packets that walking the length fields finds
 
@@ -65,7 +61,7 @@ cutting_read rs ps = map (λ (s : List ℕ). blocks_read rs (walk_of s)) ps
 
 -- asking the packet s answers this sender and this RTS, and as many blocks as its packet of the cutting has
 abbrev pub PacketRead : ℕ → ℕ → List Request → List ℕ → Type 0
-PacketRead sender rts rs s = read_of (decode_packet s) ≡ reading.Accepted sender rts (length (blocks_read rs (walk_of s)))
+PacketRead sender rts rs s = read_of (decode_packet s) ≡ Ok (record { sender = sender; rts = rts; blocks = length (blocks_read rs (walk_of s)) })
 
 -- it has at most `limit` octets, and at most the limit in whole 32-bit words
 abbrev pub WithinLimit : ℕ → List ℕ → Type 0
@@ -74,9 +70,9 @@ WithinLimit limit s = (length s ≤ limit) × (length s ≤ rounded_down limit)
 -- ---- metrics
 
 -- what is seen of a number of a stream at RTS: what its cell says
-abbrev pub seen_at : Found → List ℕ → ℕ → ℕ → Metric
-seen_at (At p) cells rts number = seen_of (read_cell (cell_at cells p number)) rts
-seen_at Nothing cells rts number = NotReceived
+abbrev pub seen_at : Option ℕ → List ℕ → ℕ → ℕ → Metric
+seen_at (Some p) cells rts number = seen_of (read_cell (cell_at cells p number)) rts
+seen_at None cells rts number = NotReceived
 
 abbrev pub seen_in : List ℕ → List ℕ → ℕ → ℕ → ℕ → Metric
 seen_in places cells rts ssrc number = seen_at (find_of places ssrc) cells rts number
@@ -85,10 +81,12 @@ seen_in places cells rts ssrc number = seen_at (find_of places ssrc) cells rts n
 -- says of it
 abbrev pub MetricsRead : List ℕ → List ℕ → ℕ → List ℕ → Type 0
 MetricsRead places cells rts s =
-    (k j : ℕ) (b : ReportBlock) → located (walk_of s) k ≡ answer.Found b → j < b.num_reports
+    (k j : ℕ) (b : ReportBlock) → located (walk_of s) k ≡ Ok b → j < b.num_reports
     → reported_of (located (walk_of s) k) s j
-    ≡ asked.Reported ((b.begin_seq + j) % sequence_numbers)
-    (seen_in places cells rts b.ssrc ((b.begin_seq + j) % sequence_numbers))
+    ≡ Ok (record {
+      number = (b.begin_seq + j) % sequence_numbers;
+      metric = seen_in places cells rts b.ssrc ((b.begin_seq + j) % sequence_numbers);
+    })
 
 -- ---- numbers that the parameters can hold
 

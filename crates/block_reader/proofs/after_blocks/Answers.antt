@@ -1,22 +1,26 @@
-use mathlib.Core.Path.{refl, ◌∙◌}
-use native.Mathlib.Omega.{arith}
-use Rattle.block_reader.proofs.Answers.{after_none, after_block, after_end, after_refused}
+use Rattle.std.proofs.Common.{◌≡◌, suc, ◌+◌, ◌-◌, rules, arith}
+use Rattle.std.proofs.lemmas.Grind.{common_steps}
+use Rattle.block_reader.specs.Steps.{after_blocks}
+use Rattle.block_reader.proofs.Answers.{after_turn}
 use Rattle.block_reader.proofs.after_blocks.Goals as goal
 
-pub loop-left-init : goal.loop-left-init
-loop-left-init c = refl
+pub returns-in_err-next : goal.returns-in_err-next
+returns-in_err-next c =
+    let left : c.args.k - c.loop.counter ≡ suc (c.args.k - (c.loop.counter + 1)) = omega arith in
+    record { value = rw (← c.loop.invariant, after_turn _ _ _ _ left, ← c.next.ensures.value, c.in_err-next.was) (search rules) }
 
-pub loop-left-preserved : goal.loop-left-preserved
-loop-left-preserved c =
-    after_block _ _ _ _ c.next-here.ensures.value (omega (arith, c.loop-left-test.true)) _ _ c.in-Block.is ∙ c.loop-left.invariant
+pub returns-in_err-next-2 : goal.returns-in_err-next-2
+returns-in_err-next-2 c =
+    let left : c.args.k - c.loop.counter ≡ suc (c.args.k - (c.loop.counter + 1)) = omega arith in
+    let none = c.in_err-next-2.ensures.ok_part in
+    record { value = rw (← c.loop.invariant, after_turn _ _ _ _ left, ← c.next.ensures.value, c.in_ok-next.was, none) (search rules) }
 
-pub returns-in-End : goal.returns-in-End
-returns-in-End c =
-    record { value = after_end _ _ _ _ c.next-here.ensures.value (omega (arith, c.loop-left-test.true)) c.in-End.is ∙ c.loop-left.invariant }
-
-pub returns-in-Refused : goal.returns-in-Refused
-returns-in-Refused c =
-    record { value = after_refused _ _ _ _ c.next-here.ensures.value (omega (arith, c.loop-left-test.true)) _ c.in-Refused.is ∙ c.loop-left.invariant }
+pub loop-preserved : goal.loop-preserved
+loop-preserved c =
+    let left : c.args.k - c.loop.counter ≡ suc (c.args.k - (c.loop.counter + 1)) = omega arith in
+    let some = c.in_ok-next-2.ensures.ok_part in
+    rw (← c.loop.invariant, after_turn _ _ _ _ left, ← c.next.ensures.value, c.in_ok-next.was, some)
 
 pub returns : goal.returns
-returns c = record { value = after_none _ _ _ c.loop-left-test.false ∙ c.loop-left.invariant }
+unfolding after_blocks
+returns c = record { value = rw (← c.loop.invariant) (grind (arith, common_steps)) }

@@ -1,23 +1,25 @@
 use mathlib.Core.List.{[], ◌∷◌}
-use Rattle.block_reader.specs.declared.BlockAnswer.{BlockAnswer}
+use Rattle.std.specs.Prelude.{Result}
+use Rattle.walk.specs.declared.ReportBlock.{ReportBlock}
+use Rattle.refusal.specs.declared.Refusal.{Refusal}
 use Rattle.ccfb_calls.proofs.Told.{told}
 use Rattle.ccfb_reader.specs.Packets.{block_called}
 use borrow.Author.Rules.{rules}
 use Rattle.ccfb_reader.proofs.ccfb_block.Goals as goal
 
-pub returns-in-Found : goal.returns-in-Found
-returns-in-Found c =
+pub returns-in-Ok : goal.returns-in-Ok
+returns-in-Ok c =
     let args = c.args in
     record {
-      after = told (λ (x : BlockAnswer). block_called x (args.ssrc.now ∷ args.begin.now ∷ args.count.now ∷ []))
-          c.block-answer.ensures.value c.in-Found.is;
+      after = told (λ (x : Result ReportBlock Refusal). block_called x (args.ssrc.now ∷ args.begin.now ∷ args.count.now ∷ []))
+          c.block-answer.ensures.value c.in-Ok.is;
     }
 
-pub returns-in-Refused : goal.returns-in-Refused
-returns-in-Refused c =
+pub returns-in-Err : goal.returns-in-Err
+returns-in-Err c =
     let args = c.args in
     record {
       after = rw c.number.ensures.value
-          (told (λ (x : BlockAnswer). block_called x (args.ssrc.now ∷ args.begin.now ∷ args.count.now ∷ []))
-          c.block-answer.ensures.value c.in-Refused.is);
+          (told (λ (x : Result ReportBlock Refusal). block_called x (args.ssrc.now ∷ args.begin.now ∷ args.count.now ∷ []))
+          c.block-answer.ensures.value c.in-Err.is);
     }

@@ -3,9 +3,9 @@ use Rattle.ccfb_reports.specs.Reports.{part_called}
 use borrow.Author.Rules.{rules}
 use Rattle.ccfb_reports.proofs.ccfb_block_metrics.Goals as goal
 
-pub returns-in-Found : goal.returns-in-Found
-returns-in-Found c = record { after = told part_called c.block-found.ensures.value c.in-Found.is }
+pub returns-in-Ok : goal.returns-in-Ok
+returns-in-Ok c = record { after = told part_called c.block-found.ensures.value c.in-Ok.is }
 
-pub returns-in-Refused : goal.returns-in-Refused
-returns-in-Refused c =
-    record { after = rw c.number.ensures.value (told part_called c.block-found.ensures.value c.in-Refused.is) }
+pub returns-in-Err : goal.returns-in-Err
+returns-in-Err c =
+    record { after = rw c.number.ensures.value (told part_called c.block-found.ensures.value c.in-Err.is) }

@@ -1,23 +1,25 @@
 use mathlib.Core.List.{[], ◌∷◌}
-use Rattle.packet_header.specs.declared.Start.{Start}
+use Rattle.std.specs.Prelude.{Result}
+use Rattle.packet_header.specs.declared.Cursor.{Cursor}
+use Rattle.refusal.specs.declared.Refusal.{Refusal}
 use Rattle.ccfb_calls.proofs.Told.{told}
 use Rattle.ccfb_walk.specs.Walk.{first_called}
 use borrow.Author.Rules.{rules}
 use Rattle.ccfb_walk.proofs.ccfb_first_block.Goals as goal
 
-pub returns-in-At : goal.returns-in-At
-returns-in-At c =
+pub returns-in-Ok : goal.returns-in-Ok
+returns-in-Ok c =
     let args = c.args in
     record {
-      after = told (λ (x : Start). first_called x (args.at.now ∷ []))
-          c.read_header-first.ensures.value c.in-At.is;
+      after = told (λ (x : Result Cursor Refusal). first_called x (args.at.now ∷ []))
+          c.read_header-first.ensures.value c.in-Ok.is;
     }
 
-pub returns-in-Refused : goal.returns-in-Refused
-returns-in-Refused c =
+pub returns-in-Err : goal.returns-in-Err
+returns-in-Err c =
     let args = c.args in
     record {
       after = rw c.number.ensures.value
-          (told (λ (x : Start). first_called x (args.at.now ∷ []))
-          c.read_header-first.ensures.value c.in-Refused.is);
+          (told (λ (x : Result Cursor Refusal). first_called x (args.at.now ∷ []))
+          c.read_header-first.ensures.value c.in-Err.is);
     }

@@ -1,4 +1,4 @@
-use Rattle.std.proofs.Common.{sym, ap, ◌∙◌, arith, rules}
+use Rattle.std.proofs.Common.{sym, ap, ◌∙◌, arith}
 use Rattle.cutting.specs.declared.NextBlock.TheVariants.{Part}
 use Rattle.cutting.proofs.Plan.{next_whole, next_part, next_closed}
 use Rattle.cutting.proofs.next_block.Goals as goal

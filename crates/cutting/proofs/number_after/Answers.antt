@@ -1,4 +1,4 @@
-use Rattle.std.proofs.Common.{sym, ◌∙◌, arith, rules}
+use Rattle.std.proofs.Common.{sym, ◌∙◌, arith}
 use Rattle.cutting.proofs.Plan.{after_sum}
 use Rattle.cutting.proofs.number_after.Goals as goal
 

@@ -1,4 +1,4 @@
-use Rattle.std.proofs.Common.{arith, rules}
+use Rattle.std.proofs.Common.{arith}
 use Rattle.cutting.proofs.numbers_in.Goals as goal
 
 pub returns-then-room-lt-LEAST_BLOCK : goal.returns-then-room-lt-LEAST_BLOCK

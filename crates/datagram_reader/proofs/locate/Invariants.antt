@@ -1,15 +1,10 @@
 -- The invariant: what is left to pass leads from here to the packet that
 -- k leads to from the start.
 use Prim.Native.Nat.{◌-◌}
-use mathlib.Core.Logic.{⊎_elim}
-use mathlib.Core.Path.{◌≡◌, refl, sym, ◌∙◌}
-use native.Mathlib.Omega.{arith}
+use mathlib.Core.Path.{◌≡◌}
 use lib.ListN.{length}
 use Rattle.datagram.specs.Walk.{packets_from, packets_of}
-use Rattle.datagram.proofs.Steps.{found_more, found_within}
 use Rattle.datagram_reader.specs.Reading.{located_feedback}
-use Rattle.datagram_reader.proofs.Answers.{search_hit, search_one, search_other, search_end, search_broken}
-use borrow.Author.Rules.{rules}
 use Rattle.datagram_reader.proofs.locate.Given as goal
 
 abbrev pub invariant-loop-p : goal.invariant-loop-p

@@ -1,5 +1,4 @@
 use Rattle.line_hex.proofs.Hex.{line_put}
-use borrow.Author.Rules.{rules}
 use Rattle.line_hex.proofs.put_line.Goals as goal
 
 pub returns : goal.returns

@@ -17,8 +17,8 @@ returns-in-Faulty-clause-after g c =
 pub returns-in-Faulty-clause-few : goal.returns-in-Faulty-clause-few
 returns-in-Faulty-clause-few g c = short_left _ _ _ _ _ _ c.args.intake _ c.feed-fed.ensures.after
 
-pub returns : goal.returns
-returns g c =
+pub returns-in_default : goal.returns-in_default
+returns-in_default g c =
     let a = c.args in
     let back = c.read.new.buf in
     let octets : (k : ℕ) → Fits w8 (get_or (read_into a.intake.left a.buf.now back) k 0) = search rules in

@@ -2,8 +2,8 @@ use native.Mathlib.Omega.{arith}
 use Rattle.metric.proofs.Table.{after_row}
 use Rattle.metric_encode.proofs.age_of.Goals as goal
 
-pub returns-in-Unknown : goal.returns-in-Unknown
-returns-in-Unknown c = record { value = rw c.in-Unknown.is (after_row _ (omega arith)) }
+pub returns-in-None : goal.returns-in-None
+returns-in-None c = record { value = rw c.in-None.is (after_row _ (omega arith)) }
 
-pub returns-in-Known : goal.returns-in-Known
-returns-in-Known c = record { value = rw (c.in-Known.is, c.age.ensures.value) }
+pub returns-in-Some : goal.returns-in-Some
+returns-in-Some c = record { value = rw (c.in-Some.is, c.age.ensures.value) }

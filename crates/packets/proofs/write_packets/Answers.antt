@@ -1,14 +1,13 @@
 use Prim.Native.Nat.{◌+◌, ◌≤◌}
-use mathlib.Core.Path.{◌≡◌, refl}
+use mathlib.Core.Path.{refl}
 use native.Mathlib.Omega.{arith}
 use borrow.Rule.Slice.PartMut.{mid_len}
-use lib.ListN.{length, take}
+use lib.ListN.{length}
 use Rattle.packet.specs.Sizes.{packet_octets}
-use Rattle.cutting.specs.Plan.{plan_from, plan, most_packets}
 use Rattle.cutting.specs.Cutting.{counts}
-use Rattle.blocks.specs.Steps.{remaining, InRange, next_packet, metric_found}
+use Rattle.blocks.specs.Steps.{next_packet, metric_in}
 use Rattle.blocks.proofs.Blocks.{range_start}
-use Rattle.packets.proofs.Packets.{plan_start, plan_on, plan_less, plan_over, Writing, writing_start, writing_room, writing_on, writing_done}
+use Rattle.packets.proofs.Packets.{plan_start, plan_on, plan_less, plan_over, writing_start, writing_room, writing_on, writing_done}
 use borrow.Author.Rules.{rules}
 use Rattle.packets.proofs.write_packets.Goals.{In-loop-from}
 use Rattle.packets.proofs.write_packets.Goals as goal
@@ -16,16 +15,15 @@ use Rattle.packets.proofs.write_packets.Goals as goal
 -- the next packet has room
 room : (c : In-loop-from)
     → let args = c.args in
-    c.loop-from.end + packet_octets (counts (next_packet args.limit (take args.n args.requests) c.loop-from.from).packet) ≤ length
+    c.loop-from.end + packet_octets (counts (next_packet args.report.now.limit args.report.now.requests.now c.loop-from.from).packet) ≤ length
     c.loop-from.out
 room c =
-    let a = c.args in
-    let h : a.n ≤ length a.requests = omega (arith, c.well_formed, c.requires.prepared) in
-    let e = plan_on a.requests a.n h a.limit c.requires.prepared.least c.loop-from.from _ c.loop-from-test.true refl in
+    let r = c.args.report.now in
+    let e = plan_on r.requests.now r.limit c.requires.prepared.least c.loop-from.from _ c.loop-from-test.true refl in
     omega (
       arith,
-      writing_room (metric_found a.cells.now a.rts a.found.now) (take a.n a.requests)
-          a.sender a.rts _ c.loop-from.end _ _ _ c.loop-from.invariant.2 _ _ e,
+      writing_room (metric_in r) r.requests.now
+          r.sender r.rts _ c.loop-from.end _ _ _ c.loop-from.invariant.2 _ _ e,
       c.loop-from.invariant.0,
       c.requires.room,
     )
@@ -33,19 +31,17 @@ room c =
 -- where the loop ends, no request is left
 pub returns : goal.returns
 returns c =
-    let a = c.args in
-    let h : a.n ≤ length a.requests = omega (arith, c.well_formed, c.requires.prepared) in
-    let past : a.n ≤ c.loop-from.from.request = c.loop-from-test.false in
+    let r = c.args.report.now in
+    let past : length r.requests.now ≤ c.loop-from.from.request = c.loop-from-test.false in
     record {
-      content = writing_done (metric_found a.cells.now a.rts a.found.now) (take a.n a.requests) a.sender a.rts _ c.loop-from.end _ _ _ c.loop-from.invariant.2
-          (plan_over a.requests a.n h a.limit c.requires.prepared.least c.loop-from.from past);
+      content = writing_done (metric_in r) r.requests.now r.sender r.rts _ c.loop-from.end _ _ _ c.loop-from.invariant.2
+          (plan_over r.requests.now r.limit c.requires.prepared.least c.loop-from.from past);
     }
 
 pub loop-from-init : goal.loop-from-init
 loop-from-init c =
-    let a = c.args in
-    let h : a.n ≤ length a.requests = omega (arith, c.well_formed, c.requires.prepared) in
-    (refl, range_start a.requests a.n h 0, writing_start _ _ _ _ _ _ _ (plan_start a.requests a.n h a.limit c.requires.prepared.least))
+    let r = c.args.report.now in
+    (refl, range_start r.requests.now 0, writing_start _ _ _ _ _ _ _ (plan_start r.requests.now r.limit c.requires.prepared.least))
 
 pub slice_bounds-write_packet-count : goal.slice_bounds-write_packet-count
 slice_bounds-write_packet-count c = omega (arith, room (goal.at.slice_bounds-write_packet-count c).In-loop-from)
@@ -65,19 +61,17 @@ overflow_add-end c =
 
 pub loop-from-smaller : goal.loop-from-smaller
 loop-from-smaller c =
-    let a = c.args in
-    let h : a.n ≤ length a.requests = omega (arith, c.well_formed, c.requires.prepared) in
-    plan_less a.requests a.n h a.limit c.requires.prepared.least c.loop-from.from _ c.loop-from-test.true c.write_packet-p.ensures.after.rest
+    let r = c.args.report.now in
+    plan_less r.requests.now r.limit c.requires.prepared.least c.loop-from.from _ c.loop-from-test.true c.write_packet-p.ensures.after.rest
 
 pub loop-from-preserved : goal.loop-from-preserved
 loop-from-preserved c =
-    let a = c.args in
+    let r = c.args.report.now in
     let l = c.loop-from in
-    let h : a.n ≤ length a.requests = omega (arith, c.well_formed, c.requires.prepared) in
     let p = c.write_packet-p.ensures.after in
-    let e = plan_on a.requests a.n h a.limit c.requires.prepared.least l.from _ c.loop-from-test.true p.rest in (
+    let e = plan_on r.requests.now r.limit c.requires.prepared.least l.from _ c.loop-from-test.true p.rest in (
       search rules,
       p.range,
-      writing_on (metric_found a.cells.now a.rts a.found.now) (take a.n a.requests) a.sender
-          a.rts _ l.end _ _ _ l.invariant.2 _ _ _ _ e (omega (arith, room (goal.at.loop-from-preserved c).In-loop-from)) p.octets p.content,
+      writing_on (metric_in r) r.requests.now r.sender
+          r.rts _ l.end _ _ _ l.invariant.2 _ _ _ _ e (omega (arith, room (goal.at.loop-from-preserved c).In-loop-from)) p.octets p.content,
     )

@@ -8,6 +8,3 @@ use Rattle.places.proofs.find_from.Given as goal
 
 abbrev pub invariant-loop-i : goal.invariant-loop-i
 invariant-loop-i l = find_from l.places l.ssrc l.i ≡ find_from l.places l.ssrc l.from
-
-abbrev pub decreases-loop-i : goal.decreases-loop-i
-decreases-loop-i l = length l.places - l.i

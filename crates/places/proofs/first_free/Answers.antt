@@ -1,22 +1,19 @@
-use mathlib.Core.Path.{sym, ◌∙◌}
-use native.Mathlib.Nat.{sub-zero}
-use borrow.Author.Rules.{rules}
-use Rattle.lists.proofs.First.{first_hit, first_miss, first_none}
+use Rattle.std.proofs.Common.{ℕ, ◌≡◌, refl, Bool, true, false, tests, rules}
+use Rattle.std.proofs.lemmas.Iterator.{YieldsList-from_slice, IsFirst-from_position}
+use Rattle.lists.proofs.Position.{first_is}
+use Rattle.places.specs.Place.{read_place, is_free}
 use Rattle.places.proofs.Places.{free_is, free_not}
 use Rattle.places.proofs.first_free.Goals as goal
 
-pub loop-i-init : goal.loop-i-init
-loop-i-init c = (search rules, rw sub-zero)
-
-pub returns-then-places-i-ne1 : goal.returns-then-places-i-ne1
-returns-then-places-i-ne1 c =
-    let loop = c.loop-i in
-    record { value = sym (first_hit _ _ _ (search rules) (free_is _ c.if-places-i-ne1.true)) ∙ loop.invariant.1 }
-
-pub loop-i-preserved : goal.loop-i-preserved
-loop-i-preserved c =
-    let loop = c.loop-i in
-    (search rules, sym (first_miss _ _ _ (search rules) (free_not _ c.if-places-i-ne1.false)) ∙ loop.invariant.1)
+-- a word of a free place
+abbrev is : ℕ → Bool
+is word = is_free (read_place word)
 
 pub returns : goal.returns
-returns c = record { value = sym (first_none _ _ _ (search rules)) ∙ c.loop-i.invariant.1 }
+returns c =
+    let places = c.args.places.now in
+    record {
+      value = first_is is places c.position.result
+          (IsFirst-from_position _ _ c.position.result (λ w. is w ≡ true) (λ w. is w ≡ false) c.position.ensures.ran
+          (YieldsList-from_slice places c.iter.ensures.rest) (λ x q k. free_is x.now (λ e. search (rules, tests))) (λ x q k. (refl, free_not x.now (search (rules, tests)))));
+    }

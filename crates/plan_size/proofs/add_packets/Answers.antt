@@ -3,7 +3,6 @@ use native.Mathlib.Omega.{arith}
 use Rattle.cutting.specs.Limits.{most_limit}
 use Rattle.plan_size.specs.Steps.{most_added}
 use Rattle.plan_size.proofs.Division.{full_few, adds_new}
-use borrow.Author.Rules.{rules}
 use Rattle.plan_size.proofs.add_packets.Goals.{After-block_octets}
 use Rattle.plan_size.proofs.add_packets.Goals as goal
 

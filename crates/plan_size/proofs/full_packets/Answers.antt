@@ -1,6 +1,5 @@
 use native.Mathlib.Omega.{arith}
 use Rattle.plan_size.proofs.Division.{full_some}
-use borrow.Author.Rules.{rules}
 use Rattle.plan_size.proofs.full_packets.Goals as goal
 
 pub returns : goal.returns

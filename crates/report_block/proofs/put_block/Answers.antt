@@ -1,6 +1,5 @@
 use Rattle.cell_metrics.specs.Metrics.{cell_metric}
 use Rattle.report_block.proofs.Metrics.{block_parts}
-use borrow.Author.Rules.{rules}
 use Rattle.report_block.proofs.put_block.Goals as goal
 
 pub returns : goal.returns

@@ -1,24 +1,14 @@
-use Prim.Native.Nat.{◌+◌, ◌*◌, ◌≤◌}
-use mathlib.Core.Path.{◌≡◌, refl, sym, ap, ◌∙◌}
-use lib.ListN.{length}
-use lib.Seq.{sets}
-use Rattle.cell_metrics.specs.Metrics.{cell_metric}
-use Rattle.packet.specs.Packet.{encode_metrics}
-use Rattle.report_block.proofs.Metrics.{metrics_of, metrics_turn, metrics_none}
-use borrow.Author.Rules.{rules}
+use Rattle.std.proofs.Common.{sym, ap, ◌∙◌, arith}
+use Rattle.std.proofs.lemmas.List.Edits.{sets}
+use Rattle.report_block.proofs.Metrics.{metrics_turn, metrics_none}
 use Rattle.report_block.proofs.put_metrics.Goals as goal
 
-pub loop-left-init : goal.loop-left-init
-loop-left-init c = (refl, search rules, refl)
-
-pub loop-left-preserved : goal.loop-left-preserved
-loop-left-preserved c = (
-  search rules,
-  search rules,
-  metrics_turn _ c.loop-left.out _ _ _ c.loop-left.number _ c.loop-left.left _ c.loop-left-test.true
-      c.cell_metric.ensures.value c.number_after-number.ensures.value c.put16.ensures.content c.loop-left.invariant.2,
-)
+pub loop-i-preserved : goal.loop-i-preserved
+loop-i-preserved c =
+    let a = c.args in
+    metrics_turn _ c.loop-i.out _ _ a.at a.begin a.count c.loop-i.i _ c.loop-i-test.true
+    (rw c.number_after-number.ensures.value at c.cell_metric-metric.ensures.value) c.put16.ensures.content c.loop-i.invariant
 
 pub returns : goal.returns
 returns c =
-    record { content = sym (ap (sets _ _) (metrics_none _ _ _ c.loop-left-test.false)) ∙ c.loop-left.invariant.2 }
+    record { content = sym (ap (sets _ _) (metrics_none _ _ _ (omega arith))) ∙ c.loop-i.invariant }

@@ -1,6 +1,5 @@
 use mathlib.Core.Path.{sym}
 use Rattle.request_check.proofs.Checks.{window_empty, window_in, window_out}
-use borrow.Author.Rules.{rules}
 use Rattle.request_check.proofs.in_window.Goals as goal
 
 pub returns-then-count-eq0 : goal.returns-then-count-eq0

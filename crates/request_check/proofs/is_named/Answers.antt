@@ -1,29 +1,25 @@
-use Prim.Native.Nat.{◌-◌, ◌≤◌}
-use mathlib.Core.Path.{◌≡◌, refl, sym, ◌∙◌}
-use native.Mathlib.Omega.{arith}
-use lib.ListN.{length, take, drop}
+use Rattle.std.proofs.Common.{◌≡◌, ℕ, Bool, true, false, cond, ◌||◌, eqb, List, [], ◌∷◌, refl, ◌∙◌, rules, tests}
+use Rattle.std.proofs.lemmas.Iterator.{YieldsList-from_slice}
+use Rattle.std.proofs.lemmas.Iterator.Search.{any_from_yields_List}
+use Rattle.std.specs.List.{list_any}
+use Rattle.cutting.specs.declared.Request.{Request}
 use Rattle.request_check.specs.Check.{named}
-use Rattle.request_check.proofs.Checks.{named_hit, named_miss, named_none}
-use borrow.Author.Rules.{rules}
 use Rattle.request_check.proofs.is_named.Goals as goal
 
-pub loop-i-init : goal.loop-i-init
-loop-i-init c = refl
+or_is_cond : (a b : Bool) → (a || b) ≡ cond a true b
+or_is_cond true b = refl
+or_is_cond false b = refl
 
-pub returns-then-q-ssrc : goal.returns-then-q-ssrc
-returns-then-q-ssrc c =
-    let a = c.args in
-    let h : a.n ≤ length a.requests = omega arith in
-    record { value = sym (named_hit a.requests a.n h c.loop-i.i a.ssrc (omega arith) c.if-q-ssrc.true) ∙ c.loop-i.invariant }
-
-pub loop-i-preserved : goal.loop-i-preserved
-loop-i-preserved c =
-    let a = c.args in
-    let h : a.n ≤ length a.requests = omega arith in
-    sym (named_miss a.requests a.n h c.loop-i.i a.ssrc (omega arith) c.if-q-ssrc.false) ∙ c.loop-i.invariant
+any_is_named : (ssrc : ℕ) (rs : List Request) → list_any (λ r. eqb r.ssrc ssrc) rs ≡ named rs ssrc
+unfolding named
+any_is_named ssrc [] = refl
+any_is_named ssrc (r ∷ rs) = rw (any_is_named ssrc rs) (or_is_cond (eqb r.ssrc ssrc) (named rs ssrc))
 
 pub returns : goal.returns
 returns c =
-    let a = c.args in
-    let h : a.n ≤ length a.requests = omega arith in
-    record { value = sym (named_none a.requests a.n h c.loop-i.i a.ssrc (omega arith)) ∙ c.loop-i.invariant }
+    let rs = c.args.requests.now in
+    let ssrc = c.args.ssrc in
+    record {
+      value = any_from_yields_List (λ (r : Request). eqb r.ssrc ssrc) _ _ c.any.result c.any.ensures.ran
+          (YieldsList-from_slice rs cc) (λ x b q k. search (rules, tests)) ∙ any_is_named ssrc rs;
+    }

@@ -1,54 +1,40 @@
-use Prim.Native.Nat.{◌-◌, ◌≤◌, ◌<◌}
-use mathlib.Core.Path.{◌≡◌, refl, sym, ◌∙◌}
-use mathlib.Core.List.{[]}
-use native.Mathlib.Omega.{arith}
-use lib.ListN.{length, take, drop, length-set}
-use lib.Seq.{length-take-le}
-use Rattle.cutting.specs.Limits.{most_requests}
+use Rattle.std.proofs.Common.{◌≡◌, ◌<◌, length, refl, sym, ◌∙◌, Err, arith, rules}
 use Rattle.cutting.proofs.Requests.{stream_at}
-use Rattle.requests.specs.Requests.{checked}
-use Rattle.requests.proofs.Turns.{FoundTo, found_none, found_more, checked_on, checked_fault, checked_none, no_fault}
 use Rattle.request_check.proofs.Checks.{check_found}
-use borrow.Author.Rules.{rules}
+use Rattle.requests.proofs.Turns.{found_more, checked_on, checked_fault, checked_none, no_fault}
 use Rattle.requests.proofs.validate.Goals as goal
 
-pub loop-i-init : goal.loop-i-init
-loop-i-init c =
-    let args = c.args in
-    (c.requires.room, refl, found_none args.places.now (take args.n args.requests) args.found.now)
-
-pub returns-in-Fault : goal.returns-in-Fault
-returns-in-Fault c =
+pub returns-in_err-found : goal.returns-in_err-found
+returns-in_err-found c =
     let a = c.args in
-    let h : a.n ≤ length a.requests = omega (arith, c.well_formed, c.requires) in
+    let e = c.in_err-found.field-0.0 in
+    let refused : c.from_residual.result ≡ Err e = search rules in
     record {
       answer = record {
-        answer = checked_fault a.requests a.n h a.places.now c.loop-i.i (omega arith) _
-            c.check_request-f.ensures.value _ c.loop-i.invariant.1 _ c.in-Fault.is;
-        places_found = λ z. absurd (no_fault _ z);
+        answer = refused ∙ checked_fault a.requests.now a.places.now c.loop-i.i (omega arith) _
+            c.in_err-found.ensures.value _ c.loop-i.invariant.checked_on e refl;
+        places_found = λ z. absurd (no_fault e (sym refused ∙ z));
       };
     }
 
 pub loop-i-preserved : goal.loop-i-preserved
 loop-i-preserved c =
-    let a = c.args in
-    let h : a.n ≤ length a.requests = omega (arith, c.well_formed, c.requires) in
-    let d : c.loop-i.i < a.n = omega arith in
-    let e = c.check_request-f.ensures.value in
-    let p = c.in-At.is in (
-      length-set c.loop-i.found c.loop-i.i _ ∙ c.loop-i.invariant.0,
-      checked_on a.requests a.n h a.places.now c.loop-i.i d _ e _ c.loop-i.invariant.1 _ p,
-      found_more a.places.now (take a.n a.requests) c.loop-i.found c.loop-i.i _ (omega (arith, c.loop-i.invariant.0))
-          c.loop-i.invariant.2 (rw (stream_at a.requests a.n h c.loop-i.i d) (check_found _ _ _ _ (sym p ∙ e))),
-    )
+    let places = c.args.places.now in
+    let rs = c.args.requests.now in
+    let i = c.loop-i.i in
+    let here : i < length rs = omega arith in
+    let e = c.in_ok-found.ensures.value in
+    record {
+      checked_on = checked_on rs places i here _ e _ c.loop-i.invariant.checked_on _ refl;
+      found_to = found_more places rs c.loop-i.found i _ (omega arith) c.loop-i.invariant.found_to
+          (rw (stream_at rs i) (check_found _ _ _ _ e));
+    }
 
 pub returns : goal.returns
 returns c =
-    let a = c.args in
-    let h : a.n ≤ length a.requests = omega (arith, c.well_formed, c.requires) in
     record {
       answer = record {
-        answer = sym (checked_none a.requests a.n h a.places.now c.loop-i.i (omega arith)) ∙ c.loop-i.invariant.1;
-        places_found = λ z i k. c.loop-i.invariant.2 i (omega (arith, length-take-le a.n a.requests h));
+        answer = sym (checked_none _ _ _ (omega arith)) ∙ c.loop-i.invariant.checked_on;
+        places_found = λ z k h. c.loop-i.invariant.found_to k (omega arith);
       };
     }

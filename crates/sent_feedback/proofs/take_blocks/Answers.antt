@@ -10,38 +10,40 @@ use Rattle.sent_feedback.proofs.Steps.{block_sound, block_turn, blocks_end, bloc
 use borrow.Author.Rules.{rules}
 use Rattle.sent_feedback.proofs.take_blocks.Goals as goal
 
-pub loop-b-init : goal.loop-b-init
-loop-b-init c = (refl, c.requires.sound, refl)
+pub loop-block-init : goal.loop-block-init
+loop-block-init c = (refl, c.requires.sound, refl)
 
 pub take_block-requires : goal.take_block-requires
 take_block-requires c =
-    let e = sym c.next-here.ensures.value ∙ c.in-Block.is in
+    let e = sym (rw c.in-Some.is at c.in_ok-block.ensures.value) in
     record {
-      sized = c.loop-b.invariant.0 ∙ c.requires.sized;
+      sized = c.loop-block.invariant.0 ∙ c.requires.sized;
       within = within _ _ _ _ e;
       few = few_reports _ _ _ _ e;
     }
 
-pub loop-b-smaller : goal.loop-b-smaller
-loop-b-smaller c =
-    let e = sym c.next-here.ensures.value ∙ c.in-Block.is in
+pub loop-block-smaller : goal.loop-block-smaller
+loop-block-smaller c =
+    let e = sym (rw c.in-Some.is at c.in_ok-block.ensures.value) in
     omega (arith, inside _ _ _ _ e, next_more _ _ _ _ e)
 
-pub loop-b-preserved : goal.loop-b-preserved
-loop-b-preserved c =
+pub loop-block-preserved : goal.loop-block-preserved
+loop-block-preserved c =
     let a = c.args in
-    let n = c.next-here.ensures.value in
-    let e = c.in-Block.is in (
-      c.take_block.auto.cells ∙ c.loop-b.invariant.0,
-      block_sound a.places.now a.rts a.packet.now c.loop-b.cells _ _ n c.loop-b.invariant.1 _ _ e,
-      block_turn a.places.now a.rts a.packet.now c.loop-b.cells _ _ n c.loop-b.invariant.1 _ _ _ e c.take_block.ensures.content ∙ c.loop-b.invariant.2,
+    let n = rw c.in-Some.is at c.in_ok-block.ensures.value in (
+      c.take_block.auto.cells ∙ c.loop-block.invariant.0,
+      block_sound a.places.now a.rts a.packet.now c.loop-block.cells _ _ n c.loop-block.invariant.1 _ _ refl,
+      block_turn a.places.now a.rts a.packet.now c.loop-block.cells _ _ n c.loop-block.invariant.1 _ _ _ refl c.take_block.ensures.content ∙ c.loop-block.invariant.2,
     )
 
-pub returns-in-End : goal.returns-in-End
-returns-in-End c =
-    record { content = blocks_end _ _ _ _ _ _ c.next-here.ensures.value c.loop-b.invariant.1 c.in-End.is ∙ c.loop-b.invariant.2 }
+pub returns-in_err-block-clause-accepted : goal.returns-in_err-block-clause-accepted
+returns-in_err-block-clause-accepted c =
+    blocks_never c.args.places.now c.args.rts c.args.packet.now c.loop-block.cells _ _ c.in_err-block.ensures.value c.loop-block.invariant.1 _ refl
 
-pub returns-in-Refused : goal.returns-in-Refused
-returns-in-Refused c =
-    let a = c.args in
-    record { content = blocks_never a.places.now a.rts a.packet.now c.loop-b.cells _ _ c.next-here.ensures.value c.loop-b.invariant.1 _ c.in-Refused.is }
+pub returns-in_err-block-clause-content : goal.returns-in_err-block-clause-content
+returns-in_err-block-clause-content c =
+    blocks_never c.args.places.now c.args.rts c.args.packet.now c.loop-block.cells _ _ c.in_err-block.ensures.value c.loop-block.invariant.1 _ refl
+
+pub returns-clause-content : goal.returns-clause-content
+returns-clause-content c =
+    blocks_end _ _ _ _ _ _ (rw c.in_default.is at c.in_ok-block.ensures.value) c.loop-block.invariant.1 refl ∙ c.loop-block.invariant.2

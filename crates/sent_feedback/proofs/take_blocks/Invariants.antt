@@ -12,11 +12,11 @@ use Rattle.sent_feedback.proofs.Steps.{block_sound, block_turn, blocks_end, bloc
 use borrow.Author.Rules.{rules}
 use Rattle.sent_feedback.proofs.take_blocks.Given as goal
 
-abbrev pub invariant-loop-b : goal.invariant-loop-b
-invariant-loop-b l =
+abbrev pub invariant-loop-block : goal.invariant-loop-block
+invariant-loop-block l =
     (length l.cells ≡ length l.initial.cells) × (NotStopped (walk_from l.packet l.cursor.at))
     × (blocks_taken l.places l.rts l.packet l.cells (walk_from l.packet l.cursor.at)
     ≡ blocks_taken l.places l.rts l.packet l.initial.cells (walk_from l.packet l.initial.cursor.at))
 
-abbrev pub decreases-loop-b : goal.decreases-loop-b
-decreases-loop-b l = length l.packet - l.cursor.at
+abbrev pub decreases-loop-block : goal.decreases-loop-block
+decreases-loop-block l = length l.packet - l.cursor.at

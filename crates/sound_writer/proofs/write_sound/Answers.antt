@@ -1,29 +1,23 @@
-use Prim.Native.Nat.{◌≤◌}
-use native.Mathlib.Omega.{arith}
-use lib.ListN.{take, length}
-use lib.Seq.{length-take-le}
+use Rattle.std.proofs.Common.{arith}
 use Rattle.places.proofs.Shape.{ready_found}
 use Rattle.sound_writer.proofs.Room.{found_packets, put_short, put_whole}
-use borrow.Author.Rules.{rules}
 use Rattle.sound_writer.proofs.write_sound.Goals as goal
 
 pub returns-then-out-need : goal.returns-then-out-need
 returns-then-out-need c =
-    let a = c.args in
-    record { after = put_short _ _ a.out.now _ c.measure-need.ensures.value c.if-out-need.true }
+    record { after = put_short _ _ c.args.out.now _ c.measure-need.ensures.value c.if-out-need.true }
 
 pub write_packets-requires : goal.write_packets-requires
 write_packets-requires c =
-    let a = c.args in
-    let h : a.n ≤ length a.requests = omega (arith, c.well_formed, c.requires.few) in
+    let sound = c.requires.sound in
     record {
       prepared = record {
-        least = c.requires.least;
-        most = c.requires.most;
-        few = c.requires.few;
+        least = sound.least;
+        most = sound.most;
+        few = sound.few;
+        found_all = sound.found_all;
         held = λ i l.
-            let f = c.requires.held i (omega (arith, length-take-le a.n a.requests h)) in
-            let r = ready_found a.places.now a.cells.now _ _ c.requires.shape f in
+            let r = ready_found c.args.places.now c.args.report.now.cells.now _ _ sound.shape (sound.held i l) in
             omega (arith, r.there, r.sized);
       };
       room = omega (arith, c.measure-need.ensures.value.octets, c.if-out-need.false);
@@ -31,10 +25,10 @@ write_packets-requires c =
 
 pub returns : goal.returns
 returns c =
-    let a = c.args in
+    let r = c.args.report.now in
+    let sound = c.requires.sound in
     record {
-      after = put_whole _ _ a.out.now _ c.measure-need.ensures.value _ _ c.if-out-need.false
-          (found_packets a.places.now a.cells.now a.found.now a.sender a.rts a.limit (take a.n a.requests)
-          c.requires.least c.requires.held)
+      after = put_whole _ _ c.args.out.now _ c.measure-need.ensures.value _ _ c.if-out-need.false
+          (found_packets c.args.places.now r.cells.now r.found.now r.sender r.rts r.limit r.requests.now sound.least sound.held)
           c.write_packets.ensures.content;
     }

@@ -1,68 +1,42 @@
-use mathlib.Core.Path.{sym, ◌∙◌}
-use lib.ListN.{take}
-use borrow.Author.Tests.{not-true, not-false}
+use Rattle.std.proofs.Common.{◌≡◌, length, ap, refl, sym, ◌∙◌, Err, rules}
+use Rattle.octets.specs.Output.{output_after}
 use Rattle.places.proofs.Shape.{is_shaped}
-use Rattle.writer.proofs.Calls.{bad_store_lem, limit_low, limit_high, too_many, unsound, sound}
-use borrow.Author.Rules.{rules}
+use Rattle.writer.proofs.Calls.{sound_shaped, written_by}
 use Rattle.writer.proofs.write.Goals as goal
 
-pub returns-then-not-shaped : goal.returns-then-not-shaped
-returns-then-not-shaped c =
+pub returns-in_err-check_call : goal.returns-in_err-check_call
+returns-in_err-check_call c =
     let a = c.args in
-    record {
-      after = bad_store_lem a.places.now a.cells.now a.sender a.rts a.limit a.n (take a.n a.requests)
-          a.out.now (sym c.is_shaped-shaped.ensures.value ∙ c.if-not-shaped.true);
-    }
-
-pub returns-then-limit-lt-LEAST_LIMIT : goal.returns-then-limit-lt-LEAST_LIMIT
-returns-then-limit-lt-LEAST_LIMIT c =
-    let a = c.args in
-    record {
-      after = limit_low a.places.now a.cells.now a.sender a.rts a.limit a.n (take a.n a.requests)
-          a.out.now (sym c.is_shaped-shaped.ensures.value ∙ c.if-not-shaped.false) c.if-limit-lt-LEAST_LIMIT.true;
-    }
-
-pub returns-then-limit-gt-MOST_LIMIT : goal.returns-then-limit-gt-MOST_LIMIT
-returns-then-limit-gt-MOST_LIMIT c =
-    let a = c.args in
-    record {
-      after = limit_high a.places.now a.cells.now a.sender a.rts a.limit a.n (take a.n a.requests)
-          a.out.now (sym c.is_shaped-shaped.ensures.value ∙ c.if-not-shaped.false) c.if-limit-lt-LEAST_LIMIT.false c.if-limit-gt-MOST_LIMIT.true;
-    }
-
-pub returns-then-n-gt-MOST_REQUESTS : goal.returns-then-n-gt-MOST_REQUESTS
-returns-then-n-gt-MOST_REQUESTS c =
-    let a = c.args in
-    record {
-      after = too_many a.places.now a.cells.now a.sender a.rts a.limit a.n (take a.n a.requests)
-          a.out.now (sym c.is_shaped-shaped.ensures.value ∙ c.if-not-shaped.false) c.if-limit-lt-LEAST_LIMIT.false c.if-limit-gt-MOST_LIMIT.false c.if-n-gt-MOST_REQUESTS.true;
-    }
+    let w = written_by a.places.now a.cells.now a.sender a.rts a.limit (length a.requests.now) a.requests.now a.out.now in
+    let refused : c.from_residual.result ≡ Err c.in_err-check_call.field-0.0 = search rules in
+    record { after = ap (λ r. output_after r a.out.now) refused ∙ w _ _ c.in_err-check_call.ensures.value refl }
 
 pub write_sound-requires : goal.write_sound-requires
 write_sound-requires c =
-    let a = c.args in
+    let call = sym c.in_ok-check_call.ensures.value in
     record {
-      least = c.if-limit-lt-LEAST_LIMIT.false;
-      most = c.if-limit-gt-MOST_LIMIT.false;
-      few = c.if-n-gt-MOST_REQUESTS.false;
-      shape = is_shaped a.places.now a.cells.now (sym c.is_shaped-shaped.ensures.value ∙ c.if-not-shaped.false);
-      held = c.validate-v.ensures.answer.places_found c.in-Sound.is;
+      sound = record {
+        least = search rules;
+        most = search rules;
+        few = search rules;
+        shape = is_shaped _ _ (sound_shaped _ _ c.args.limit (length c.args.requests.now) call);
+        found_all = search rules;
+        held = search rules;
+      };
     }
 
-pub returns-in-Sound : goal.returns-in-Sound
-returns-in-Sound c =
+pub returns : goal.returns
+returns c =
     let a = c.args in
-    record {
-      after = sound a.places.now a.cells.now a.sender a.rts a.limit a.n (take a.n a.requests)
-          a.out.now (sym c.is_shaped-shaped.ensures.value ∙ c.if-not-shaped.false) c.if-limit-lt-LEAST_LIMIT.false
-          c.if-limit-gt-MOST_LIMIT.false c.if-n-gt-MOST_REQUESTS.false _ c.validate-v.ensures.answer.answer _ c.in-Sound.is c.write_sound.ensures.after;
-    }
+    let w = written_by a.places.now a.cells.now a.sender a.rts a.limit (length a.requests.now) a.requests.now a.out.now in
+    record { after = c.write_sound.ensures.after ∙ w _ _ c.in_ok-check_call.ensures.value c.in_ok-validate.ensures.answer.answer }
 
-pub returns-in-Fault : goal.returns-in-Fault
-returns-in-Fault c =
+pub returns-in_err-validate : goal.returns-in_err-validate
+returns-in_err-validate c =
     let a = c.args in
+    let w = written_by a.places.now a.cells.now a.sender a.rts a.limit (length a.requests.now) a.requests.now a.out.now in
+    let refused : c.from_residual-in_err-validate.result ≡ Err c.in_err-validate.field-0.0 = search rules in
     record {
-      after = unsound a.places.now a.cells.now a.sender a.rts a.limit a.n (take a.n a.requests) a.out.now
-          (sym c.is_shaped-shaped.ensures.value ∙ c.if-not-shaped.false) c.if-limit-lt-LEAST_LIMIT.false c.if-limit-gt-MOST_LIMIT.false
-          c.if-n-gt-MOST_REQUESTS.false _ c.validate-v.ensures.answer.answer _ c.in-Fault.is;
+      after = ap (λ r. output_after r a.out.now) refused
+          ∙ w _ _ c.in_ok-check_call.ensures.value c.in_err-validate.ensures.answer.answer;
     }

@@ -1,5 +1,0 @@
-use mathlib.Core.Path.{refl}
-use Rattle.line_store.proofs.fresh_places.Goals as goal
-
-pub returns : goal.returns
-returns c = record { value = refl }

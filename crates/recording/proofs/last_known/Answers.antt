@@ -1,9 +1,0 @@
-use mathlib.Core.Path.{refl}
-use borrow.Author.Rules.{rules}
-use Rattle.recording.proofs.last_known.Goals as goal
-
-pub returns-in-Unknown : goal.returns-in-Unknown
-returns-in-Unknown c = record { value = rw c.in-Unknown.is refl }
-
-pub returns-in-Known : goal.returns-in-Known
-returns-in-Known c = record { value = rw c.in-Known.is refl }
