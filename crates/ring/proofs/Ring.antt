@@ -66,6 +66,13 @@ emptied_gone (suc k) zero words base s j l e b =
 emptied_gone (suc k) (suc i) words base s j l e b =
     emptied_gone k i (set words (base + s % cells_of_a_place) 0) base (s + 1) j (omega arith) (omega arith) (rw length-set b)
 
+-- one zero, and then the others
+pub zeroes_more : (words : List ℕ) (i n m : ℕ) → n ≡ suc m → sets words i (replicate n 0) ≡ sets (set words i 0) (i + 1) (replicate m 0)
+zeroes_more words i n zero e = rw e
+zeroes_more words i n (suc m) e =
+    let h : i + 1 ≡ suc i = omega arith in
+    rw (e, h) refl
+
 -- ---- a run that does not wrap, and two runs back to back
 pub emptied_run : (n : ℕ) (words : List ℕ) (base s : ℕ) → s % cells_of_a_place + n ≤ cells_of_a_place → emptied words base s n ≡ sets words (base + s % cells_of_a_place) (replicate n 0)
 unfolding emptied

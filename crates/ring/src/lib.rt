@@ -9,11 +9,14 @@ ghost use Rattle.ring.specs.Ring.{cells_of_a_place, emptied};
 pub const CELLS_OF_A_PLACE: usize = 2048;
 
 // Sets count words to 0, starting at start.
+// A loop on purpose: it is compiled to one `memset`, while `fill` of a slice writes the last word by itself.
 fn clear(words: &mut [u64], start: usize, count: usize)
     requires room { start + count ≤ length words.old }
     ensures content { words.new ≡ sets words.old start (replicate count 0) }
 {
-    words[start..start + count].fill(0);
+    for i in 0..count {
+        words[start + i] = 0;
+    }
 }
 
 // Empties the slots of count numbers starting at first, in the ring that starts at base: one run, or two where the ring
