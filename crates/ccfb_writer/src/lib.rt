@@ -51,11 +51,7 @@ pub fn write_array<'a>(
         (written places.now cells.now sender rts limit n (take n requests) out.old)
         packets.old octets.old }
 {
-    let call = writer::check_call(places, cells, limit, n);
-    if let Err(e) = call {
-        return refusal::number(e);
-    }
-    let answer = writer::write(places, cells, sender, rts, limit, &requests[..n], out);
+    let answer = writer::write_array(places, cells, sender, rts, limit, requests, n, out);
     hand_over(answer, packets, octets)
 }
 

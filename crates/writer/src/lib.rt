@@ -1,7 +1,7 @@
 // Writes reports on streams of the store as CCFB packets: the fewest packets possible.
 #![tactic(auto)]
 
-ghost use Rattle.std.specs.Prelude.{◌≡◌, length};
+ghost use Rattle.std.specs.Prelude.{◌≡◌, length, take};
 ghost use Rattle.octets.specs.Output.{output_after};
 ghost use Rattle.writer.specs.Steps.{call_checked};
 ghost use Rattle.writer.specs.Written.{written};
@@ -56,4 +56,22 @@ pub fn write(
         found: &found,
     };
     sound_writer::write_sound(places, &report, out)
+}
+
+// Writes a report on each of the first n requests of an array, as `write` does on a list; n above 16 is refused with 7.
+pub fn write_array(
+    places: &[u64],
+    cells: &[u64],
+    sender: u32,
+    rts: u32,
+    limit: usize,
+    requests: [Request; MOST_REQUESTS],
+    n: usize,
+    out: &mut [u8],
+) -> Result<Total, Refusal>
+    ensures after { output_after result out.new
+        ≡ written places.now cells.now sender rts limit n (take n requests) out.old }
+{
+    check_call(places, cells, limit, n)?;
+    write(places, cells, sender, rts, limit, &requests[..n], out)
 }
