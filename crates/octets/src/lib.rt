@@ -4,8 +4,10 @@
 ghost use Rattle.std.specs.Prelude.{◌≡◌, ◌+◌, ◌≤◌, length};
 ghost use Rattle.octets.specs.Octets.{be16, be32};
 
-// How many values an octet has.
+// How many values an octet has, and how many a half of a 32-bit number.
 pub const OCTET_VALUES: u16 = 0x100;
+
+pub const HALF_VALUES: u32 = 0x1_0000;
 
 // The 16-bit number at an offset.
 #[tactic(auto, unfolding(crate::specs::Octets::be16))]
