@@ -11,5 +11,5 @@ overflow_add-n c =
 
 pub loop-next-preserved : goal.loop-next-preserved
 loop-next-preserved c =
-    let e = sym c.next.ensures.value ∙ c.in_ok-next.was ∙ ap Ok c.in-Some.is in
-    (omega (arith, next_more _ _ _ _ e), rw (← c.loop-next.invariant.1, count_turn _ c.loop-next.cursor.at c.loop-next.n, e))
+    let turn = sym c.next.ensures.value ∙ c.in_ok-next.was ∙ ap Ok c.in-Some.is in
+    (omega (arith, next_more _ _ _ _ turn), rw (← c.loop-next.invariant.1, count_turn _ c.loop-next.cursor.at c.loop-next.n, turn))
